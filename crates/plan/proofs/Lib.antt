@@ -1,0 +1,5 @@
+pub mod Certificate
+pub mod Values
+pub mod Circles
+pub mod Cells
+pub mod Exact

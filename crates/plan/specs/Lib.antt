@@ -1,0 +1,5 @@
+pub mod Network
+pub mod Plan
+pub mod Tie
+pub mod Table
+pub mod Sheet
