@@ -3,3 +3,7 @@ pub mod Values
 pub mod Circles
 pub mod Cells
 pub mod Exact
+pub mod Order
+pub mod Search
+pub mod Walk
+pub mod Named

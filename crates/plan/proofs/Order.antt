@@ -1,0 +1,131 @@
+-- The tie rule is a total order, so there is at most one named plan, and cutting circles never comes after. Assumes nothing.
+use Prim.Native.Nat.{ℕ, _+_, _≤_, _<_}
+use native.Mathlib.Omega.{arith}
+use native.Mathlib.Decide.{ℕ-discrete, decLt}
+use mathlib.Core.Path.{_≡_, refl, sym, ap, ap₂, _∙_, subst}
+use mathlib.Core.Logic.{_≢_, _⊎_, inl, inr, ⊎-elim}
+use mathlib.Core.List.{List, [], _∷_}
+use lib.ListN.{length}
+use Rattle.plan.specs.Network.{Minute, Network, InRange, Query}
+use Rattle.plan.specs.Plan.{Ride, arrives, arrival, cost, Runs, Stands, Feasible}
+use Rattle.plan.specs.Tie.{Less-then, Back-upto, Upto, Named}
+use Rattle.plan.proofs.Circles.{NoWorse, cut-short}
+
+-- ---- one number and then the rest
+
+-- the smaller, or equal and the rest holds
+pub less-then : (a b : ℕ) {X : Type 0} → a ≤ b → (a ≡ b → X) → Less-then a b X
+less-then a b {X} h k = at (ℕ-discrete a b)
+  where
+    at : Dec (a ≡ b) → Less-then a b X
+    at (yes e) = inr (e, k e)
+    at (no ne) = inl (omega arith)
+
+pub less-then-le : (a b : ℕ) {X : Type 0} → Less-then a b X → a ≤ b
+less-then-le a b (inl l) = omega arith
+less-then-le a b (inr (e, x)) = omega arith
+
+pub less-then-rest : (a b : ℕ) {X : Type 0} → Less-then a b X → b ≤ a → X
+less-then-rest a b {X} (inl l) h = let z : ⊥ = omega arith in absurd z
+less-then-rest a b (inr (e, x)) h = x
+
+less-then-total : (a b : ℕ) {X Y : Type 0} → X ⊎ Y → Less-then a b X ⊎ Less-then b a Y
+less-then-total a b {X} {Y} o = at (decLt a b) (decLt b a)
+  where
+    at : Dec (a < b) → Dec (b < a) → Less-then a b X ⊎ Less-then b a Y
+    at (yes l) d = inl (inl l)
+    at (no nl) (yes l) = inr (inl l)
+    at (no nl) (no nr) = ⊎-elim (λ x. inl (inr (omega arith, x))) (λ y. inr (inr (omega arith, y))) o
+
+less-then-trans : (a b c : ℕ) {X Y Z : Type 0} → (X → Y → Z) → Less-then a b X → Less-then b c Y → Less-then a c Z
+less-then-trans a b c f (inl l) m = let h = less-then-le b c m in inl (omega arith)
+less-then-trans a b c f (inr (e, x)) (inl m) = inl (omega arith)
+less-then-trans a b c f (inr (e, x)) (inr (g, y)) = inr (e ∙ g, f x y)
+
+-- ---- from the last leg back
+
+back-total : (N : Network) (x y : List Ride) → Back-upto N x y ⊎ Back-upto N y x
+back-total N [] y = inl tt
+back-total N (r ∷ rs) [] = inr tt
+back-total N (r ∷ rs) (s ∷ ss) =
+    less-then-total (arrives N r) (arrives N s) (less-then-total (r .leg) (s .leg) (back-total N rs ss))
+
+back-trans : (N : Network) (x y z : List Ride) → Back-upto N x y → Back-upto N y z → Back-upto N x z
+back-trans N [] y z h k = tt
+back-trans N (r ∷ rs) [] z h k = absurd h
+back-trans N (r ∷ rs) (s ∷ ss) [] h k = absurd k
+back-trans N (r ∷ rs) (s ∷ ss) (t ∷ ts) h k =
+    less-then-trans (arrives N r) (arrives N s) (arrives N t)
+    (less-then-trans (r .leg) (s .leg) (t .leg) (back-trans N rs ss ts))
+    h k
+
+pub back-refl : (N : Network) (x : List Ride) → Back-upto N x x
+back-refl N [] = tt
+back-refl N (r ∷ rs) = inr (refl, inr (refl, back-refl N rs))
+
+ride-same : (N : Network) (r s : Ride) → r .leg ≡ s .leg → arrives N r ≡ arrives N s → r ≡ s
+ride-same N r s e a =
+    let d : r .leave ≡ s .leave = omega (arith, ap (λ (l : ℕ). N .time l) e) in
+    λ i. record { leg = e i; leave = d i }
+
+back-same : (N : Network) (x y : List Ride) → Back-upto N x y → Back-upto N y x → x ≡ y
+back-same N [] [] h k = refl
+back-same N [] (s ∷ ss) h k = absurd k
+back-same N (r ∷ rs) [] h k = absurd h
+back-same N (r ∷ rs) (s ∷ ss) h k =
+    let later = less-then-le (arrives N s) (arrives N r) k in
+    let sooner = less-then-le (arrives N r) (arrives N s) h in
+    let h′ = less-then-rest (arrives N r) (arrives N s) h later in
+    let k′ = less-then-rest (arrives N s) (arrives N r) k sooner in
+    let higher = less-then-le (s .leg) (r .leg) k′ in
+    let lower = less-then-le (r .leg) (s .leg) h′ in
+    ap₂ _∷_ (ride-same N r s (omega arith) (omega arith))
+    (back-same N rs ss (less-then-rest (r .leg) (s .leg) h′ higher) (less-then-rest (s .leg) (r .leg) k′ lower))
+
+-- ---- the whole rule
+
+module _ (N : Network) (q : Query) where
+  pub upto-total : (x y : List Ride) → Upto N q x y ⊎ Upto N q y x
+  upto-total x y =
+      less-then-total (cost N x) (cost N y)
+      (less-then-total (arrival N q x) (arrival N q y) (less-then-total (length x) (length y) (back-total N x y)))
+
+  pub upto-trans : (x y z : List Ride) → Upto N q x y → Upto N q y z → Upto N q x z
+  upto-trans x y z =
+      less-then-trans (cost N x) (cost N y) (cost N z)
+      (less-then-trans (arrival N q x) (arrival N q y) (arrival N q z)
+      (less-then-trans (length x) (length y) (length z) (back-trans N x y z)))
+
+  pub upto-same : (x y : List Ride) → Upto N q x y → Upto N q y x → x ≡ y
+  upto-same x y h k =
+      let h₁ = less-then-rest (cost N x) (cost N y) h (less-then-le (cost N y) (cost N x) k) in
+      let k₁ = less-then-rest (cost N y) (cost N x) k (less-then-le (cost N x) (cost N y) h) in
+      let h₂ = less-then-rest (arrival N q x) (arrival N q y) h₁ (less-then-le (arrival N q y) (arrival N q x) k₁) in
+      let k₂ = less-then-rest (arrival N q y) (arrival N q x) k₁ (less-then-le (arrival N q x) (arrival N q y) h₁) in
+      back-same N x y (less-then-rest (length x) (length y) h₂ (less-then-le (length y) (length x) k₂))
+      (less-then-rest (length y) (length x) k₂ (less-then-le (length x) (length y) h₂))
+
+  -- AT MOST ONE PLAN is the named one
+  pub named-once : (x y : List Ride) → Named N q x → Named N q y → x ≡ y
+  named-once x y h k = upto-same x y (h .first y (k .feasible)) (k .first x (h .feasible))
+
+  -- a plan that is no worse does not come after
+  pub no-worse-upto : (plan cut : List Ride) → NoWorse N q plan cut → Upto N q cut plan
+  no-worse-upto plan cut k =
+      less-then (cost N cut) (cost N plan) (k .lighter (N .toll)) λ _.
+      less-then (arrival N q cut) (arrival N q plan) (k .by) λ _.
+      ⊎-elim
+      (λ (e : cut ≡ plan). inr (ap length e, subst (λ (x : List Ride). Back-upto N cut x) e (back-refl N cut)))
+      (λ (l : length cut < length plan). inl l)
+      (k .shorter)
+
+  no-worse-feasible : (plan cut : List Ride) → NoWorse N q plan cut → Feasible N q plan → Feasible N q cut
+  no-worse-feasible plan cut k f = record { runs = k .runs; there = k .there ∙ f .there; by = omega (arith, k .by, f .by) }
+
+  -- THE NAMED PLAN IS SHORT: fewer legs than the network has places
+  pub named-short : InRange N → q .start < N .places → (plan : List Ride) → Named N q plan → length plan < N .places
+  named-short ok home plan h =
+      let (cut, k, short) = cut-short N q ok home plan (h .feasible .runs) in
+      let same : cut ≡ plan =
+      upto-same cut plan (no-worse-upto plan cut k) (h .first cut (no-worse-feasible plan cut k (h .feasible))) in
+      omega (arith, short, ap length same)
