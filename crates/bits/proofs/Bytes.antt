@@ -1,14 +1,14 @@
 -- Fields and whole bytes: what a byte is as a field, how words are put together, and what bytes elsewhere do not change.
 use Prim.Native.Nat.{ℕ, zero, suc, _+_, _-_, _*_, _/_, _%_, _^_, _≤_, _<_}
-use native.Mathlib.Nat.{add-zero, add-suc, add-assoc, div-eq-of-lt}
+use native.Mathlib.Nat.{add-zero, add-suc, add-assoc, div-eq-of-lt, lt-of-lt-of-le}
 use native.Mathlib.Omega.{arith}
 use mathlib.Core.Path.{_≡_, refl, sym, ap, _∙_}
 use mathlib.Core.List.{List, _++_}
 use lib.ListN.{length, getD, take, List·getD-append}
 use lib.Seq.{ext-getD, getD-take}
-use lib.Pow.{shr-shr}
+use lib.Pow.{shr-shr, pow-mono}
 use Rattle.bits.specs.Field.{bit, field}
-use Rattle.bits.proofs.Fields.{field-none, field-suc, field-split, field-same, field-bit}
+use Rattle.bits.proofs.Fields.{field-none, field-suc, field-below, field-split, field-middle, field-same}
 
 -- bit k of byte i
 pub bit-of-byte : (s : List ℕ) (i k : ℕ) → k < 8 → bit s (8 * i + k) ≡ getD s i 0 / 2 ^ (7 - k) % 2
@@ -31,11 +31,25 @@ first-bits s i (suc k) b h =
 pub field-byte : (s : List ℕ) (i : ℕ) → getD s i 0 < 256 → field s (8 * i) 8 ≡ getD s i 0
 field-byte s i b = first-bits s i 8 b (omega arith) ∙ omega arith
 
--- n bytes, and what follows them, as one field
-pub field-join : (s : List ℕ) (i n w : ℕ) → field s (8 * i) (8 * n + w) ≡ field s (8 * i) (8 * n) * 2 ^ w + field s (8 * (i + n)) w
-field-join s i n w =
+-- n bytes, and what follows them, as one number
+pub joined : (s : List ℕ) (i n w : ℕ) {x y : ℕ} → x ≡ field s (8 * i) (8 * n) → y ≡ field s (8 * (i + n)) w
+    → x * 2 ^ w + y ≡ field s (8 * i) (8 * n + w)
+joined s i n w hx hy =
     let e : 8 * (i + n) ≡ 8 * i + 8 * n = omega arith in
-    rw e (field-split s (8 * i) (8 * n) w)
+    rw (hx, hy, e) (sym (field-split s (8 * i) (8 * n) w))
+
+-- up to n bytes are below 2 to their bits
+pub bytes-below : (s : List ℕ) (i k n : ℕ) → k ≤ n → field s (8 * i) (8 * k) < 2 ^ (8 * n)
+bytes-below s i k n h = lt-of-lt-of-le (field-below s (8 * i) (8 * k)) (pow-mono (omega arith))
+
+-- a field, cut out of the bytes that hold it
+pub field-cut : (s : List ℕ) (at w n : ℕ) {x : ℕ} → at % 8 + w ≤ 8 * n → x ≡ field s (8 * (at / 8)) (8 * n)
+    → x / 2 ^ (8 * n - at % 8 - w) % 2 ^ w ≡ field s at w
+field-cut s at w n h e =
+    let down = 8 * n - at % 8 - w in
+    let place : 8 * (at / 8) + at % 8 ≡ at = omega arith in
+    let whole : at % 8 + w + down ≡ 8 * n = omega arith in
+    rw e (rw (place, whole) at (sym (field-middle s (8 * (at / 8)) (at % 8) w down)))
 
 -- bytes with equal bits are equal
 pub bits-ext : (a b : List ℕ) → length a ≡ length b → ((i : ℕ) → getD a i 0 < 256) → ((i : ℕ) → getD b i 0 < 256)

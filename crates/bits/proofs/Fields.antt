@@ -4,7 +4,7 @@ use native.Mathlib.Nat.{add-zero, add-suc, add-assoc, mul-one, mod-lt, pow-suc}
 use native.Mathlib.Omega.{arith}
 use mathlib.Core.Path.{_≡_, refl, sym, ap, _∙_}
 use mathlib.Core.List.{List}
-use lib.Pow.{pow-pos, pow-add, high, low}
+use lib.Pow.{pow-pos, pow-add, high, low, shl-exact}
 use Rattle.bits.specs.Field.{bit, field}
 
 -- a field of no bits is 0
@@ -62,3 +62,7 @@ pub field-zero : (s : List ℕ) (at w : ℕ) → ((p : ℕ) → at ≤ p → p <
 field-zero s at zero h = field-none s at
 field-zero s at (suc w) h =
     rw (field-suc s at w, field-zero s at w (λ p l u. h p l (omega arith)), h (at + w) (omega arith) (omega arith))
+
+-- `1 << w` in a 64-bit number
+pub one-shl : (w : ℕ) → w < 64 → 1 * 2 ^ w % 2 ^ 64 ≡ 2 ^ w
+one-shl w h = shl-exact 1 w 64 (omega arith) (omega arith) ∙ omega arith

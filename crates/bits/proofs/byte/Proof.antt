@@ -1,25 +1,19 @@
-use Prim.Native.Nat.{ℕ, _+_, _-_, _*_, _≤_, _<_}
+-- `bits::byte`: a byte of a slice is below 256.
 use native.Mathlib.Omega.{arith}
-use mathlib.Core.Path.{_≡_, refl, sym, ap, _∙_}
-use mathlib.Core.Logic.{⊎-elim}
-use lib.ListN.{length, getD, set, length-set}
+use mathlib.Core.Path.{sym}
 use borrow.Author.Needs.{needs}
+use Rattle.bits.proofs.Bytes.{field-byte}
 use Rattle.bits.proofs.byte.Statement.{statement}
 use Rattle.bits.proofs.byte.Tie as tie
-use Rattle.bits.proofs.byte.Reads as reads
-use Rattle.bits.proofs.byte.Lts as lts
 
--- src/lib.rt:12:5
 shared-slice-read-result : tie.Need-shared-slice-read-result
 shared-slice-read-result c = search needs
 
--- src/lib.rt:12:5
 cast-result : tie.Need-cast-result
-cast-result c = search needs
+cast-result c = omega (arith, c .shared-slice-known .given (c .before .args .i))
 
--- src/lib.rt:8:1
 returns : tie.Need-returns
-returns c = search needs
+returns c = sym (field-byte (c .before .args .s .now) (c .before .args .i) (omega (arith, c .shared-slice-known .given (c .before .args .i))))
 
 pub byte-spec : {M : Type 1} → statement M
 byte-spec = tie.close (tie.spec shared-slice-read-result cast-result returns)

@@ -1,56 +1,58 @@
-use borrow.Author.Needs.{needs}
-use Prim.Native.Nat.{ℕ, _+_, _-_, _*_, _≤_, _<_}
+-- `bits::gather`: the number so far is the field of the bytes passed.
+use Prim.Native.Nat.{_+_, _-_, _*_, _≤_}
+use mathlib.Core.Path.{_≡_, sym}
 use native.Mathlib.Omega.{arith}
-use mathlib.Core.Path.{_≡_, refl, sym, ap, _∙_}
-use mathlib.Core.Logic.{⊎-elim}
-use lib.ListN.{length, getD, set, length-set}
+use borrow.Author.Needs.{needs}
+use Rattle.bits.specs.Field.{field}
+use Rattle.bits.proofs.Fields.{field-below, field-none}
+use Rattle.bits.proofs.Bytes.{joined, bytes-below}
 use Rattle.bits.proofs.gather.Statement.{statement}
 use Rattle.bits.proofs.gather.Tie as tie
-use Rattle.bits.proofs.gather.Reads as reads
-use Rattle.bits.proofs.gather.Lts as lts
-use Rattle.bits.proofs.byte.Reads as byte-reads
 
 abbrev Inv-loop : tie.InvT-loop
-Inv-loop s i count word₀ k₀ word k = ?
+Inv-loop s i count word₀ k₀ word k = (k ≤ count) × (word ≡ field s (8 * i) (8 * k))
 
 abbrev μ-loop : tie.MeasureT-loop
-μ-loop s i count word₀ k₀ word k = ?
+μ-loop s i count word₀ k₀ word k = count - k
 
--- src/lib.rt:43:5
 loop-holds : tie.Need-loop-holds Inv-loop μ-loop
-loop-holds c = search needs
+loop-holds c = (omega arith, sym (field-none (c .before .args .s .now) (8 * c .before .args .i)))
 
--- src/lib.rt:44:16
 mul-word : tie.Need-mul-word Inv-loop μ-loop
-mul-word c = search needs
+mul-word c =
+    let a = c .before .before .before .args in
+    omega (arith, bytes-below (a .s .now) (a .i) (c .before .loop .k) 7 (omega arith))
 
--- src/lib.rt:44:39
 add-byte : tie.Need-add-byte Inv-loop μ-loop
-add-byte c = search needs
+add-byte c = omega arith
 
--- src/lib.rt:44:31
 byte-requires : tie.Need-byte-requires Inv-loop μ-loop
-byte-requires c κs = search needs
+byte-requires c κs = omega arith
 
--- src/lib.rt:44:16
 add-word : tie.Need-add-word Inv-loop μ-loop
-add-word c = search needs
+add-word c =
+    let a = c .before .before .before .before .args in
+    let k = c .before .before .loop .k in
+    omega (arith, bytes-below (a .s .now) (a .i) k 7 (omega arith), c .byte .ensures, field-below (a .s .now) (8 * (a .i + k)) 8)
 
--- src/lib.rt:45:9
 add-k : tie.Need-add-k Inv-loop μ-loop
-add-k c = search needs
+add-k c = omega arith
 
--- src/lib.rt:43:5
 loop-less : tie.Need-loop-less Inv-loop μ-loop
-loop-less c = search needs
+loop-less c = omega arith
 
--- src/lib.rt:43:5
 loop-again : tie.Need-loop-again Inv-loop μ-loop
-loop-again c = search needs
+loop-again c =
+    let a = c .before .before .before .before .args in
+    let k = c .before .before .loop .k in
+    let next : 8 * (k + 1) ≡ 8 * k + 8 = omega arith in
+    (omega arith, rw next (joined (a .s .now) (a .i) k 8 (c .before .before .loop .inv .1) (c .byte .ensures)))
 
--- src/lib.rt:37:1
 returns : tie.Need-returns Inv-loop μ-loop
-returns c = search needs
+returns c =
+    let a = c .before .before .before .args in
+    let all : c .before .loop .k ≡ a .count = omega arith in
+    rw (← all) (c .before .loop .inv .1)
 
 pub gather-spec : {M : Type 1} → statement M
 gather-spec =
