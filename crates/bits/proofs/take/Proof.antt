@@ -1,4 +1,5 @@
 -- `bits::take`: the field is cut out of the bytes that hold it, on both ways.
+use Prim.Native.Nat.{_+_, _*_, _/_, _%_, _≤_}
 use native.Mathlib.Omega.{arith}
 use mathlib.Core.Path.{_∙_}
 use borrow.Author.Needs.{needs}
@@ -22,7 +23,10 @@ cut-requires : tie.Need-cut-requires
 cut-requires c κs = search needs
 
 returns : tie.Need-returns
-returns c = ?
+returns c =
+    let a = c .before .before .before .before .args in
+    let inside : a .at % 8 + a .width ≤ 64 = omega arith in
+    c .cut .ensures ∙ field-cut (a .s .now) (a .at) (a .width) 8 inside (c .before .eight .ensures)
 
 add-count : tie.Need-add-count
 add-count c = search needs
@@ -46,7 +50,11 @@ cut-requires-2 : tie.Need-cut-requires-2
 cut-requires-2 c κs = search needs
 
 returns-2 : tie.Need-returns-2
-returns-2 c = ?
+returns-2 c =
+    let a = c .before .before .before .before .args in
+    let count = (a .at % 8 + a .width + 7) / 8 in
+    let inside : a .at % 8 + a .width ≤ 8 * count = omega arith in
+    c .cut2 .ensures ∙ field-cut (a .s .now) (a .at) (a .width) count inside (c .before .gather .ensures)
 
 pub take-spec : {M : Type 1} → statement M
 take-spec =
