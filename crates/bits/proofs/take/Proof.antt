@@ -1,0 +1,76 @@
+-- `bits::take`: the field is cut out of the bytes that hold it, on both ways.
+use Prim.Native.Nat.{_+_, _*_, _/_, _%_, _≤_}
+use native.Mathlib.Omega.{arith}
+use mathlib.Core.Path.{_∙_}
+use borrow.Author.Needs.{needs}
+use Rattle.bits.proofs.Bytes.{field-cut}
+use Rattle.bits.proofs.take.Statement.{statement}
+use Rattle.bits.proofs.take.Tie as tie
+
+add-if1 : tie.Need-add-if1
+add-if1 c = search needs
+
+eight-requires : tie.Need-eight-requires
+eight-requires c κs = search needs
+
+sub-cut : tie.Need-sub-cut
+sub-cut c = search needs
+
+sub-cut-2 : tie.Need-sub-cut-2
+sub-cut-2 c = search needs
+
+cut-requires : tie.Need-cut-requires
+cut-requires c κs = search needs
+
+returns : tie.Need-returns
+returns c =
+    let a = c .before .before .before .before .args in
+    let inside : a .at % 8 + a .width ≤ 64 = omega arith in
+    c .cut .ensures ∙ field-cut (a .s .now) (a .at) (a .width) 8 inside (c .before .eight .ensures)
+
+add-count : tie.Need-add-count
+add-count c = search needs
+
+add-count-2 : tie.Need-add-count-2
+add-count-2 c = search needs
+
+gather-requires : tie.Need-gather-requires
+gather-requires c κs = search needs
+
+mul-cut : tie.Need-mul-cut
+mul-cut c = search needs
+
+sub-cut-3 : tie.Need-sub-cut-3
+sub-cut-3 c = search needs
+
+sub-cut-4 : tie.Need-sub-cut-4
+sub-cut-4 c = search needs
+
+cut-requires-2 : tie.Need-cut-requires-2
+cut-requires-2 c κs = search needs
+
+returns-2 : tie.Need-returns-2
+returns-2 c =
+    let a = c .before .before .before .before .args in
+    let count = (a .at % 8 + a .width + 7) / 8 in
+    let inside : a .at % 8 + a .width ≤ 8 * count = omega arith in
+    c .cut2 .ensures ∙ field-cut (a .s .now) (a .at) (a .width) count inside (c .before .gather .ensures)
+
+pub take-spec : {M : Type 1} → statement M
+take-spec =
+    tie.close
+    (tie.spec
+    add-if1
+    eight-requires
+    sub-cut
+    sub-cut-2
+    cut-requires
+    returns
+    add-count
+    add-count-2
+    gather-requires
+    mul-cut
+    sub-cut-3
+    sub-cut-4
+    cut-requires-2
+    returns-2)

@@ -1,0 +1,70 @@
+// One field of 1 to 32 bits in lent bytes, most significant bit first, by whole bytes.
+ghost use mathlib.Core.Path.{_≡_};
+ghost use Prim.Native.Nat.{_+_, _*_, _/_, _%_, _^_, _≤_, _<_};
+ghost use lib.ListN.{length};
+ghost use Rattle.bits.specs.Field.{field, Put};
+
+// One byte, and two, four and eight in a row, as one number: sums in pairs, which LLVM makes one load of.
+fn byte(s: &[u8], i: usize) -> u64
+    requires { ⌜ i < length (now s) ⌝ }
+    ensures { λ r. ⌜ r ≡ field (now (s .entry)) (8 * i) 8 ⌝ }
+{
+    s[i] as u64
+}
+
+fn two(s: &[u8], i: usize) -> u64
+    requires { ⌜ i + 2 ≤ length (now s) ⌝ }
+    ensures { λ r. ⌜ r ≡ field (now (s .entry)) (8 * i) 16 ⌝ }
+{
+    byte(s, i) * 0x100 + byte(s, i + 1)
+}
+
+fn four(s: &[u8], i: usize) -> u64
+    requires { ⌜ i + 4 ≤ length (now s) ⌝ }
+    ensures { λ r. ⌜ r ≡ field (now (s .entry)) (8 * i) 32 ⌝ }
+{
+    two(s, i) * 0x1_0000 + two(s, i + 2)
+}
+
+fn eight(s: &[u8], i: usize) -> u64
+    requires { ⌜ i + 8 ≤ length (now s) ⌝ }
+    ensures { λ r. ⌜ r ≡ field (now (s .entry)) (8 * i) 64 ⌝ }
+{
+    four(s, i) * 0x1_0000_0000 + four(s, i + 4)
+}
+
+// The `count` bytes from `i` on as one number.
+fn gather(s: &[u8], i: usize, count: usize) -> u64
+    requires { ⌜ (count ≤ 8) × (i + count ≤ length (now s)) ⌝ }
+    ensures { λ r. ⌜ r ≡ field (now (s .entry)) (8 * i) (8 * count) ⌝ }
+{
+    let mut word: u64 = 0;
+    let mut k = 0;
+    while k < count {
+        word = word * 0x100 + byte(s, i + k);
+        k += 1;
+    }
+    word
+}
+
+// `width` bits of a number, without the lowest `down`.
+fn cut(word: u64, down: usize, width: usize) -> u32
+    requires { ⌜ (down < 64) × (width ≤ 32) ⌝ }
+    ensures { λ r. ⌜ r ≡ word / 2 ^ down % 2 ^ width ⌝ }
+{
+    ((word >> down) % (1 << width)) as u32
+}
+
+// The field of `width` bits at bit `at`. Away from the end of the slice it is one load, one shift and one mask.
+pub fn take(s: &[u8], at: usize, width: usize) -> u32
+    requires { ⌜ (1 ≤ width) × (width ≤ 32) × (at + width ≤ 8 * length (now s)) ⌝ }
+    ensures { λ r. ⌜ r ≡ field (now (s .entry)) at width ⌝ }
+{
+    let i = at / 8;
+    let skip = at % 8;
+    if i + 8 <= s.len() {
+        return cut(eight(s, i), 64 - skip - width, width);
+    }
+    let count = (skip + width + 7) / 8;
+    cut(gather(s, i, count), 8 * count - skip - width, width)
+}

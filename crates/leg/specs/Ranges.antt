@@ -1,0 +1,51 @@
+-- What a minute, a toll and a leg's bands may hold (document 01, "Networks, plans, costs").
+use Prim.Native.Nat.{ℕ}
+use mathlib.Core.Bool.{Bool, true, false}
+use mathlib.Core.List.{List}
+use lib.Dec.{leb}
+use lib.ListN.{replicate}
+use Rattle.leg.specs.declared.Minute.{Minute}
+use Rattle.leg.specs.declared.Cents.{Cents}
+use Rattle.leg.specs.declared.Band.{Band}
+use Rattle.leg.specs.declared.MinuteFound.{MinuteFound}
+use Rattle.leg.specs.declared.CentsFound.{CentsFound}
+
+-- time is whole minutes, 0 to this one
+abbrev pub lastMinute : ℕ
+lastMinute = 2879
+
+-- a toll is at most this many cents
+abbrev pub mostCents : ℕ
+mostCents = 65535
+
+abbrev pub minute : ℕ → Minute
+minute n = record { 0 = n }
+
+abbrev pub cents : ℕ → Cents
+cents n = record { 0 = n }
+
+abbrev pub pickMinute : Bool → ℕ → MinuteFound
+pickMinute true n = MinuteFound.Within (minute n)
+pickMinute false n = MinuteFound.Beyond
+
+-- the minute n, if it is one
+abbrev pub minuteOf : ℕ → MinuteFound
+minuteOf n = pickMinute (leb n lastMinute) n
+
+abbrev pub pickCents : Bool → ℕ → CentsFound
+pickCents true n = CentsFound.Within (cents n)
+pickCents false n = CentsFound.Beyond
+
+-- a toll of n cents, if it is in range
+abbrev pub centsOf : ℕ → CentsFound
+centsOf n = pickCents (leb n mostCents) n
+
+abbrev pub bandOf : ℕ → ℕ → Band
+bandOf start toll = record { start = minute start; toll = cents toll }
+
+-- what stands where a leg has no band
+abbrev pub noBand : Band
+noBand = bandOf 0 0
+
+abbrev pub noBands : ℕ → List Band
+noBands n = replicate n noBand

@@ -1,0 +1,108 @@
+// The quantities of document 01 (a minute, cents) and a leg with its bands: what each may hold, and a leg's toll.
+ghost use mathlib.Core.Path.{_≡_};
+ghost use Prim.Native.Nat.{_≤_};
+ghost use Rattle.leg.specs.Ranges.{minuteOf, centsOf, noBand, noBands};
+ghost use Rattle.leg.specs.Toll.{tollAt};
+
+// A minute of the day or a driving time in minutes: never to be added to cents.
+pub struct Minute(pub u32);
+
+// Cents of toll.
+pub struct Cents(pub u32);
+
+// From its start up to, but not including, the next band's start a leg costs this toll.
+pub struct Band {
+    pub start: Minute,
+    pub toll: Cents,
+}
+
+// A leg with its bands: the first `count` of the eight are the leg's, the others hold zeros.
+pub struct Leg {
+    pub from: u32,
+    pub to: u32,
+    pub time: Minute,
+    pub bands: [Band; 8],
+    pub count: usize,
+}
+
+pub enum MinuteFound {
+    Within(Minute),
+    Beyond,
+}
+
+pub enum CentsFound {
+    Within(Cents),
+    Beyond,
+}
+
+impl Minute {
+    pub const LAST: u32 = 2879;
+
+    // The minute n, if it is one.
+    pub fn new(n: u32) -> MinuteFound
+        ensures { λ r. ⌜ r ≡ minuteOf n ⌝ }
+    {
+        if n <= Minute::LAST {
+            MinuteFound::Within(Minute(n))
+        } else {
+            MinuteFound::Beyond
+        }
+    }
+}
+
+impl Cents {
+    pub const MOST: u32 = 65535;
+
+    // A toll of n cents, if it is in range.
+    pub fn new(n: u32) -> CentsFound
+        ensures { λ r. ⌜ r ≡ centsOf n ⌝ }
+    {
+        if n <= Cents::MOST {
+            CentsFound::Within(Cents(n))
+        } else {
+            CentsFound::Beyond
+        }
+    }
+}
+
+impl Band {
+    // What stands where a leg has no band.
+    pub fn none() -> Band
+        ensures { λ r. ⌜ r ≡ noBand ⌝ }
+    {
+        Band {
+            start: Minute(0),
+            toll: Cents(0),
+        }
+    }
+
+    // Eight places for bands, none of them taken.
+    pub fn places() -> [Band; 8]
+        ensures { λ r. ⌜ r ≡ noBands 8 ⌝ }
+    {
+        [Band::none(); 8]
+    }
+}
+
+impl Leg {
+    pub const MOST_BANDS: u32 = 8;
+
+    // The toll at a minute: that of the last band whose start is not later.
+    pub fn toll_at(self, minute: Minute) -> Cents
+        requires { ⌜ self .count ≤ 8 ⌝ }
+        ensures { λ r. ⌜ r .0 ≡ tollAt self (minute .0) ⌝ }
+    {
+        let bands = self.bands;
+        let count = self.count;
+        let mut toll = Cents(0);
+        let mut k = 0;
+        while k < count {
+            let band = bands[k];
+            if band.start.0 <= minute.0 {
+                toll = band.toll;
+            }
+            k += 1;
+        }
+        toll
+    }
+}
