@@ -7,3 +7,7 @@ pub mod Order
 pub mod Search
 pub mod Walk
 pub mod Named
+pub mod Tests
+pub mod Tested
+pub mod Legs
+pub mod Trial

@@ -3,3 +3,5 @@ pub mod Plan
 pub mod Tie
 pub mod Table
 pub mod Sheet
+pub mod Legs
+pub mod Trial
