@@ -9,5 +9,8 @@ pub mod Walk
 pub mod Named
 pub mod Tests
 pub mod Tested
+pub mod Sheets
+pub mod OneSheet
 pub mod Legs
 pub mod Trial
+pub mod TrialSheet

@@ -34,6 +34,18 @@ eq-eqb m n e = subst (λ (x : ℕ). T (eqb m x)) e (eqb-refl m)
 pub not-eqb : (m n : ℕ) → T (not (eqb m n)) → m ≢ n
 not-eqb m n h e = T-not (eqb m n) h (eq-eqb m n e)
 
+-- what a test says of a fact
+abbrev pub Is : Bool → Type 0 → Type 0
+Is true P = P
+Is false P = P → ⊥
+
+pub eqb-is : (m n : ℕ) → Is (eqb m n) (m ≡ n)
+eqb-is m n = at (eqb m n) (λ (t : T (eqb m n)). eqb→eq m n t) (eq-eqb m n)
+  where
+    at : (b : Bool) → (T b → m ≡ n) → (m ≡ n → T b) → Is b (m ≡ n)
+    at true f g = f tt
+    at false f g = g
+
 -- f holds of the n numbers from a on
 unfoldable pub everyFrom : ℕ → ℕ → (ℕ → Bool) → Bool
 everyFrom zero a f = true

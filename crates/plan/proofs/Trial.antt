@@ -30,7 +30,7 @@ from-step v [] t = v
 from-step v (s ∷ ss) t = cond (leb (s .minute) t) (from-step (s .price) ss t) v
 
 -- the cells that a list of steps for each place gives
-abbrev cells : List (List Step) → ℕ → Minute → ℕ
+abbrev pub cells : List (List Step) → ℕ → Minute → ℕ
 cells table p t = from-step none (getD table p []) t
 
 abbrev fall : Minute → ℕ → Step
@@ -106,7 +106,7 @@ test-rows N ok (r ∷ rs) (t ∷ ts) h = (
 
 -- ---- the trial network
 
-trial-in-range : InRange trial
+pub trial-in-range : InRange trial
 unfolding legs? everyFrom
 trial-in-range = test-legs 3 legs tt
 
@@ -114,7 +114,7 @@ abbrev cell : ℕ → ℕ → ℕ
 cell x n = 64 * x + n
 
 -- the cells of a query that starts at place 0 at minute 0
-abbrev from-0 : List (List Step)
+abbrev pub from-0 : List (List Step)
 from-0 =
     (fall 0 0 ∷ [])
     ∷ (fall 10 (cell 500 1) ∷ fall 70 (cell 100 1) ∷ [])
