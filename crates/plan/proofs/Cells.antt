@@ -1,19 +1,19 @@
 -- Cells: 64 × cost + legs orders plans as the pair (cost, legs) does, and cells that obey the rules and are attained are exact.
 -- Assumes nothing.
-use Prim.Native.Nat.{ℕ, zero, suc, _+_, _*_, _≤_, _<_}
+use Prim.Native.Nat.{ℕ, _+_, _*_, _≤_, _<_}
 use native.Mathlib.Omega.{arith}
 use native.Mathlib.Decide.{ℕ-discrete, decLt}
-use mathlib.Core.Path.{_≡_, refl, sym, ap, _∙_, subst}
-use mathlib.Core.Logic.{_≢_, _⊎_, inl, inr, ⊎-elim}
+use mathlib.Core.Path.{_≡_, refl}
+use mathlib.Core.Logic.{_≢_, inl, inr, ⊎-elim}
 use mathlib.Core.List.{List, [], _∷_}
 use lib.Dec.{T}
 use lib.ListN.{length}
-use Rattle.plan.specs.Network.{Minute, Network, InRange, Query}
-use Rattle.plan.specs.Plan.{Ride, arrives, place, arrival, total, cost, Follows, Runs, Stands}
+use Rattle.plan.specs.Network.{Minute, Network, InRange, Query, Askable}
+use Rattle.plan.specs.Plan.{Ride, total, cost, Runs, Stands}
 use Rattle.plan.specs.Tie.{Less-then}
-use Rattle.plan.specs.Table.{none, weight, Cheapest, Cell, MinuteTable}
-use Rattle.plan.proofs.Certificate.{Carries, certificate, from-earliest}
-use Rattle.plan.proofs.Circles.{NoWorse, cut-short}
+use Rattle.plan.specs.Table.{none, weight, Cheapest, Cell}
+use Rattle.plan.proofs.Standing.{stands-start, stands-wait, stands-ride}
+use Rattle.plan.proofs.Circles.{NoWorse, no-worse-stands, cut-short}
 
 -- what a plan weighs in cells
 pub total-weight : (N : Network) (plan : List Ride) → total (weight N) plan ≡ 64 * cost N plan + length plan
@@ -34,24 +34,17 @@ Attained N q p t v = (plan : List Ride) × Stands N q p t plan × (total (weight
 module _ (N : Network) (q : Query) where
   pub attained-start : (t : Minute) → q .earliest ≤ t → Attained N q (q .start) t 0
   unfolding Attained
-  attained-start t h = ([], record { runs = tt; there = refl; by = h }, refl)
+  attained-start t h = ([], stands-start N q t h, refl)
 
   pub attained-wait : (p : ℕ) (t u : Minute) (v : ℕ) → t ≤ u → Attained N q p t v → Attained N q p u v
   unfolding Attained
-  attained-wait p t u v h (plan, s, e) = (plan, record { runs = s .runs; there = s .there; by = omega (arith, s .by) }, e)
+  attained-wait p t u v h (plan, s, e) = (plan, stands-wait N q p t u plan h s, e)
 
   pub attained-ride : (l : ℕ) (d : Minute) (v : ℕ) → l < N .legs → T (N .goes l d) → Attained N q (N .source l) d v
       → Attained N q (N .target l) (d + N .time l) (v + weight N l d)
   unfolding Attained
-  attained-ride l d v known goes (plan, s, e) = (
-    record { leg = l; leave = d } ∷ plan,
-    record {
-      runs = (record { known = known; goes = goes; here = sym (s .there); after = s .by }, s .runs);
-      there = refl;
-      by = omega arith;
-    },
-    omega (arith, e),
-  )
+  attained-ride l d v known goes (plan, s, e) =
+      (record { leg = l; leave = d } ∷ plan, stands-ride N q l d known goes plan s, omega (arith, e))
 
 -- ---- least values
 
@@ -61,17 +54,17 @@ pub record Least (N : Network) (q : Query) (p : ℕ) (t : Minute) (v : ℕ) : Ty
   pub bound : (plan : List Ride) → Stands N q p t plan → v ≤ total (weight N) plan
   pub there : (plan : List Ride) → Stands N q p t plan → v ≢ none
 
-module _ (N : Network) (q : Query) (ok : InRange N) (home : q .start < N .places) where
+module _ (N : Network) (q : Query) (asked : Askable N q) where
   -- each plan has one that is no worse, with at most 63 legs and a weight below `none`
   pub light : (p : ℕ) (t : Minute) (plan : List Ride) → Stands N q p t plan
       → (cut : List Ride) × NoWorse N q plan cut × Stands N q p t cut × (length cut < 64) × (total (weight N) cut < none)
   light p t plan s =
-      let (c, k, h) = cut-short N q ok home plan (s .runs) in (
+      let (c, k, h) = cut-short N q (asked .ranges) (asked .home) plan (s .runs) in (
         c,
         k,
-        record { runs = k .runs; there = k .there ∙ s .there; by = omega (arith, k .by, s .by) },
-        omega (arith, ok .few),
-        omega (arith, ok .few, total-weight N c, cost-bound N q ok c (k .runs)),
+        no-worse-stands N q p t plan c k s,
+        omega (arith, asked .ranges .few),
+        omega (arith, asked .ranges .few, total-weight N c, cost-bound N q (asked .ranges) c (k .runs)),
       )
 
   -- the least weight is that of the cheapest plan with the fewest legs

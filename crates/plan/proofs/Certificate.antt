@@ -2,20 +2,12 @@
 -- The gate, the table and the sheet each cite it with a relation H of their own. Assumes nothing.
 use Prim.Native.Nat.{ℕ, _+_, _≤_, _<_}
 use native.Mathlib.Omega.{arith}
-use mathlib.Core.Path.{_≡_, sym, subst}
+use mathlib.Core.Path.{subst}
 use mathlib.Core.List.{List, [], _∷_}
 use lib.Dec.{T}
 use Rattle.plan.specs.Network.{Minute, Network, Query}
-use Rattle.plan.specs.Plan.{Ride, arrives, arrival, total, Follows, Runs, Stands}
-
--- a plan arrives at earliest or later
-pub from-earliest : (N : Network) (q : Query) (plan : List Ride) → Runs N q plan → q .earliest ≤ arrival N q plan
-from-earliest N q [] h = omega arith
-from-earliest N q (r ∷ rs) h = omega (arith, from-earliest N q rs (h .1), h .0 .after)
-
--- the rides before the last one stand where it leaves from, when it leaves
-pub before-ride : (N : Network) (q : Query) (r : Ride) (rs : List Ride) → Runs N q (r ∷ rs) → Stands N q (N .source (r .leg)) (r .leave) rs
-before-ride N q r rs h = record { runs = h .1; there = sym (h .0 .here); by = h .0 .after }
+use Rattle.plan.specs.Plan.{Ride, arrives, total, Stands}
+use Rattle.plan.proofs.Standing.{from-earliest, before-ride}
 
 -- What the certificate asks of H p t x, "there is a value at p and t, and it is at most x".
 pub record Carries (N : Network) (q : Query) (w : ℕ → Minute → ℕ) (H : ℕ → Minute → ℕ → Type 0) : Type 0 where
@@ -27,7 +19,7 @@ pub record Carries (N : Network) (q : Query) (w : ℕ → Minute → ℕ) (H : �
 module _ (N : Network) (q : Query) (w : ℕ → Minute → ℕ) (H : ℕ → Minute → ℕ → Type 0) (c : Carries N q w H) where
   pub certificate : (plan : List Ride) (p : ℕ) (t : Minute) → Stands N q p t plan → t ≤ q .latest → H p t (total w plan)
   certificate [] p t s h =
-      subst (λ (x : ℕ). H x t 0) (s .there) (c .waits (q .start) (q .earliest) t 0 (omega arith) (s .by) h (c .starts))
+      subst (λ (x : ℕ). H x t 0) (s .there) (c .waits (q .start) (q .earliest) t 0 (omega arith) (omega (arith, s .by)) h (c .starts))
   certificate (r ∷ rs) p t s h =
       let early = from-earliest N q rs (s .runs .1) in
       let f = s .runs .0 in
@@ -36,4 +28,4 @@ module _ (N : Network) (q : Query) (w : ℕ → Minute → ℕ) (H : ℕ → Min
       c .rides (r .leg) (r .leave) (total w rs) (f .known) (f .goes) (omega (arith, f .after, early)) (omega (arith, s .by)) before
       in
       subst (λ (x : ℕ). H x t (total w rs + w (r .leg) (r .leave))) (s .there)
-      (c .waits (N .target (r .leg)) (arrives N r) t (total w rs + w (r .leg) (r .leave)) (omega (arith, f .after, early)) (s .by) h there)
+      (c .waits (N .target (r .leg)) (arrives N r) t (total w rs + w (r .leg) (r .leave)) (omega (arith, f .after, early)) (omega (arith, s .by)) h there)

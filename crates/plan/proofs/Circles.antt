@@ -3,12 +3,12 @@
 use Prim.Native.Nat.{ℕ, zero, suc, _+_, _≤_, _<_}
 use native.Mathlib.Omega.{arith}
 use native.Mathlib.Decide.{ℕ-discrete}
-use mathlib.Core.Path.{_≡_, refl, sym, ap, _∙_, subst}
+use mathlib.Core.Path.{_≡_, refl, sym, ap, _∙_}
 use mathlib.Core.Logic.{_≢_, _⊎_, inl, inr, ⊎-elim}
 use mathlib.Core.List.{List, [], _∷_}
 use lib.ListN.{length}
 use Rattle.plan.specs.Network.{Minute, Network, InRange, Query}
-use Rattle.plan.specs.Plan.{Ride, arrives, place, arrival, total, Follows, Runs}
+use Rattle.plan.specs.Plan.{Ride, place, arrival, total, Follows, Runs, Stands}
 
 -- ---- counting: numbers below n that are all different are at most n
 
@@ -177,6 +177,10 @@ module _ (N : Network) (q : Query) where
 
   not-longer : (rs cut : List Ride) → NoWorse N q rs cut → length cut ≤ length rs
   not-longer rs cut k = ⊎-elim (λ e. omega (arith, ap length e)) (λ (f : length cut < length rs). omega arith) (k .shorter)
+
+  -- it stands wherever the plan does
+  pub no-worse-stands : (p : ℕ) (t : Minute) (plan cut : List Ride) → NoWorse N q plan cut → Stands N q p t plan → Stands N q p t cut
+  no-worse-stands p t plan cut k s = record { runs = k .runs; there = k .there ∙ s .there; by = omega (arith, k .by, s .by) }
 
   -- a plan without circles that does as well
   pub cut : (plan : List Ride) → Runs N q plan → (cut : List Ride) × NoWorse N q plan cut × Simple N q cut

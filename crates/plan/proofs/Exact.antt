@@ -1,18 +1,16 @@
 -- THE TABLE. Cells that are attained, and obey the rules with weight 64 × toll + 1, hold just what document 01 says;
 -- and a minute table is attained and obeys them. Assumes nothing.
-use Prim.Native.Nat.{ℕ, _+_, _*_, _/_, _≤_, _<_}
+use Prim.Native.Nat.{ℕ, _+_, _≤_, _<_}
 use native.Mathlib.Omega.{arith}
 use native.Mathlib.Decide.{ℕ-discrete}
-use mathlib.Core.Path.{_≡_, refl, sym, ap, _∙_, subst}
-use mathlib.Core.Logic.{_≢_, _⊎_, inl, inr, ⊎-elim}
-use mathlib.Core.List.{List, [], _∷_}
+use mathlib.Core.Path.{_≡_}
+use mathlib.Core.Logic.{_≢_}
+use mathlib.Core.List.{List}
 use lib.Dec.{T}
-use lib.ListN.{length}
-use Rattle.plan.specs.Network.{Minute, Network, InRange, Query}
-use Rattle.plan.specs.Plan.{Ride, total, cost, Stands}
-use Rattle.plan.specs.Table.{none, weight, Cell, MinuteTable}
+use Rattle.plan.specs.Network.{Minute, Network, Query, Askable}
+use Rattle.plan.specs.Plan.{Ride, total, Stands}
+use Rattle.plan.specs.Table.{none, weight, MinuteTable}
 use Rattle.plan.proofs.Certificate.{Carries, certificate}
-use Rattle.plan.proofs.Circles.{NoWorse}
 use Rattle.plan.proofs.Cells.{Attained, attained-start, attained-wait, attained-ride, Least, light, least-cell, cell-least}
 
 -- The cells obey the rules: 0 at the start at earliest, no rise by waiting, and no cell above what a leg gives. (`none` plus anything is not below `none`.)
@@ -26,14 +24,14 @@ pub record ObeysCells (N : Network) (q : Query) (c : ℕ → Minute → ℕ) : T
 abbrev pub AttainedCells : Network → Query → (ℕ → Minute → ℕ) → Type 0
 AttainedCells N q c = (p : ℕ) (t : Minute) → p < N .places → q .earliest ≤ t → t ≤ q .latest → c p t ≢ none → Attained N q p t (c p t)
 
-module _ (N : Network) (q : Query) (ok : InRange N) (home : q .start < N .places) (c : ℕ → Minute → ℕ) where
+module _ (N : Network) (q : Query) (asked : Askable N q) (c : ℕ → Minute → ℕ) where
   -- the certificate's H for cells
   cells-carry : ObeysCells N q c → Carries N q (weight N) (λ p t x. (p < N .places) × (c p t ≤ x))
   cells-carry o = record {
-    starts = (home, omega (arith, o .starts));
+    starts = (asked .home, omega (arith, o .starts));
     waits = λ p t u x early h late v. (v .0, omega (arith, v .1, o .waits p t u (v .0) early h late));
     rides = λ l d x known goes early late v.
-        (ok .targets l known, omega (arith, v .1, o .rides l d known goes early late));
+        (asked .ranges .targets l known, omega (arith, v .1, o .rides l d known goes early late));
   }
 
   -- no cell is above the weight of a plan that stands there
@@ -47,17 +45,17 @@ module _ (N : Network) (q : Query) (ok : InRange N) (home : q .start < N .places
     attained = a p t hp early late;
     bound = λ plan s. cells-bound o plan p t s late;
     there = λ plan s.
-        let (k, m, sk, few, small) = light N q ok home p t plan s in
+        let (k, m, sk, few, small) = light N q asked p t plan s in
         omega (arith, small, cells-bound o k p t sk late);
   }
 
   -- THE TABLE'S LAW
   pub exact : AttainedCells N q c → ObeysCells N q c → MinuteTable N q c
-  exact a o p t hp early late = least-cell N q ok home p t (c p t) (cells-least a o p t hp early late)
+  exact a o p t hp early late = least-cell N q asked p t (c p t) (cells-least a o p t hp early late)
 
   -- what a minute table gives back
   pub table-least : MinuteTable N q c → (p : ℕ) (t : Minute) → p < N .places → q .earliest ≤ t → t ≤ q .latest → Least N q p t (c p t)
-  table-least m p t hp early late = cell-least N q ok home p t (c p t) (m p t hp early late)
+  table-least m p t hp early late = cell-least N q asked p t (c p t) (m p t hp early late)
 
   pub table-attained : MinuteTable N q c → AttainedCells N q c
   table-attained m p t hp early late = table-least m p t hp early late .attained
@@ -77,12 +75,12 @@ module _ (N : Network) (q : Query) (ok : InRange N) (home : q .start < N .places
       at (yes e) = omega arith
       at (no ne) =
           let (plan, s, e) = k .attained ne in
-          let (cut, m, sc, few, small) = light N q ok home p t plan s in
+          let (cut, m, sc, few, small) = light N q asked p t plan s in
           omega (arith, small, k .bound cut sc)
 
-  pub table-obeys : MinuteTable N q c → q .earliest ≤ q .latest → ObeysCells N q c
-  table-obeys m window = record {
-    starts = omega (arith, least-below m (q .start) (q .earliest) 0 home (omega arith) window (attained-start N q (q .earliest) (omega arith)));
+  pub table-obeys : MinuteTable N q c → ObeysCells N q c
+  table-obeys m = record {
+    starts = omega (arith, least-below m (q .start) (q .earliest) 0 (asked .home) (omega arith) (asked .window) (attained-start N q (q .earliest) (omega arith)));
     waits = λ p t u hp early h late. wait p t u hp early h late (ℕ-discrete (c p t) none);
     rides = λ l d known goes early late. ride l d known goes early late (ℕ-discrete (c (N .source l) d) none);
   }
@@ -101,9 +99,9 @@ module _ (N : Network) (q : Query) (ok : InRange N) (home : q .start < N .places
             arith,
             e,
             least-most (N .target l) (d + N .time l) (c (N .target l) (d + N .time l))
-                (table-least m (N .target l) (d + N .time l) (ok .targets l known) (omega arith) late),
+                (table-least m (N .target l) (d + N .time l) (asked .ranges .targets l known) (omega arith) late),
           )
       ride l d known goes early late (no ne) =
-          least-below m (N .target l) (d + N .time l) (c (N .source l) d + weight N l d) (ok .targets l known) (omega arith) late
+          least-below m (N .target l) (d + N .time l) (c (N .source l) d + weight N l d) (asked .ranges .targets l known) (omega arith) late
           (attained-ride N q l d (c (N .source l) d) known goes
-          (table-attained m (N .source l) d (ok .sources l known) early (omega arith) ne))
+          (table-attained m (N .source l) d (asked .ranges .sources l known) early (omega arith) ne))

@@ -9,7 +9,7 @@ use Rattle.leg.specs.declared.Band.{Band}
 use Rattle.leg.specs.declared.Leg.{Leg}
 use Rattle.leg.specs.Ranges.{noBand}
 use Rattle.leg.specs.Toll.{either, tollOfFirst}
-use Rattle.plan.specs.Network.{Network, InRange}
+use Rattle.plan.specs.Network.{InRange}
 use Rattle.plan.specs.Legs.{noLeg, networkOf}
 use Rattle.plan.proofs.Tests.{and-left, and-right, everyFrom, every-at}
 
@@ -38,7 +38,7 @@ legs-in-range places legs few h = record {
   few = few;
   sources = λ l known. h l known .source;
   targets = λ l known. h l known .target;
-  tolls = λ l d known. toll-most (getD legs l noLeg .count) (getD legs l noLeg .bands) d 65535 (h l known .tolls);
+  tolls = λ l d known. toll-most (getD legs l noLeg .count) (getD legs l noLeg .bands) _ 65535 (h l known .tolls);
 }
 
 -- the same as a test

@@ -1,3 +1,4 @@
+pub mod Standing
 pub mod Certificate
 pub mod Values
 pub mod Circles

@@ -1,22 +1,21 @@
 -- There is one sheet of given values: steps with rising minutes and falling costs are told by their values. Assumes nothing.
 use Prim.Native.Nat.{ℕ, suc, _≤_, _<_}
 use native.Mathlib.Omega.{arith}
-use native.Mathlib.Decide.{ℕ-discrete, decLt}
+use native.Mathlib.Decide.{decLt}
 use mathlib.Core.Path.{_≡_, refl, sym, ap, ap₂, _∙_, subst}
 use mathlib.Core.Bool.{true, false, cond}
 use mathlib.Core.Option.{Option, none, some}
 use mathlib.Core.List.{List, [], _∷_}
 use borrow.Author.Tests.{le-leb, lt-leb}
 use lib.Dec.{leb}
-use lib.ListN.{length, getD}
+use lib.ListN.{getD}
 use lib.Seq.{ext-getD}
 use Rattle.plan.specs.Network.{Minute, Cents, Network, Query}
-use Rattle.plan.specs.Plan.{Ride, Stands, cost}
 use Rattle.plan.specs.Sheet.{Step, orElse, value, valueAt, StepsAfter, Steps, LeastCost, OurSheet}
 use Rattle.plan.proofs.Sheets.{Below, after-below}
 
 nothing-some : {A : Type 0} (x : Cents) → _≡_ {A = Option Cents} none (some x) → A
-nothing-some x e = let z : _≡_ {A = ℕ} 0 1 = cc in let never : ⊥ = omega arith in absurd never
+nothing-some x e = let z : _≡_ {A = ℕ} 0 1 = cc in absurd (omega arith)
 
 -- steps from the minute `low` on
 abbrev From : Query → Minute → List Step → Type 0
@@ -54,8 +53,8 @@ from-first s ss t h = ap (λ b. orElse (value ss t) (cond b (some (s .price)) no
 
 else-once : (v v′ : Option Cents) (x : Cents) → Below v x → Below v′ x → orElse v (some x) ≡ orElse v′ (some x) → v ≡ v′
 else-once none none x h h′ e = refl
-else-once none (some y) x h h′ e = let same : x ≡ y = cc in let never : ⊥ = omega arith in absurd never
-else-once (some y) none x h h′ e = let same : y ≡ x = cc in let never : ⊥ = omega arith in absurd never
+else-once none (some y) x h h′ e = let same : x ≡ y = cc in absurd (omega arith)
+else-once (some y) none x h h′ e = let same : y ≡ x = cc in absurd (omega arith)
 else-once (some y) (some y′) x h h′ e = e
 
 abbrev SameFrom : Query → Minute → List Step → List Step → Type 0

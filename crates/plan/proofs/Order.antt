@@ -1,15 +1,15 @@
 -- The tie rule is a total order, so there is at most one named plan, and cutting circles never comes after. Assumes nothing.
-use Prim.Native.Nat.{ℕ, _+_, _≤_, _<_}
+use Prim.Native.Nat.{ℕ, _≤_, _<_}
 use native.Mathlib.Omega.{arith}
 use native.Mathlib.Decide.{ℕ-discrete, decLt}
-use mathlib.Core.Path.{_≡_, refl, sym, ap, ap₂, _∙_, subst}
-use mathlib.Core.Logic.{_≢_, _⊎_, inl, inr, ⊎-elim}
+use mathlib.Core.Path.{_≡_, refl, ap, ap₂, _∙_, subst}
+use mathlib.Core.Logic.{_⊎_, inl, inr, ⊎-elim}
 use mathlib.Core.List.{List, [], _∷_}
 use lib.ListN.{length}
-use Rattle.plan.specs.Network.{Minute, Network, InRange, Query}
-use Rattle.plan.specs.Plan.{Ride, arrives, arrival, cost, Runs, Stands, Feasible}
+use Rattle.plan.specs.Network.{Network, Query, Askable}
+use Rattle.plan.specs.Plan.{Ride, arrives, arrival, cost}
 use Rattle.plan.specs.Tie.{Less-then, Back-upto, Upto, Named}
-use Rattle.plan.proofs.Circles.{NoWorse, cut-short}
+use Rattle.plan.proofs.Circles.{NoWorse, no-worse-stands, cut-short}
 
 -- ---- one number and then the rest
 
@@ -25,10 +25,6 @@ pub less-then-le : (a b : ℕ) {X : Type 0} → Less-then a b X → a ≤ b
 less-then-le a b (inl l) = omega arith
 less-then-le a b (inr (e, x)) = omega arith
 
-pub less-then-rest : (a b : ℕ) {X : Type 0} → Less-then a b X → b ≤ a → X
-less-then-rest a b {X} (inl l) h = let z : ⊥ = omega arith in absurd z
-less-then-rest a b (inr (e, x)) h = x
-
 less-then-total : (a b : ℕ) {X Y : Type 0} → X ⊎ Y → Less-then a b X ⊎ Less-then b a Y
 less-then-total a b {X} {Y} o = at (decLt a b) (decLt b a)
   where
@@ -42,22 +38,26 @@ less-then-trans a b c f (inl l) m = let h = less-then-le b c m in inl (omega ari
 less-then-trans a b c f (inr (e, x)) (inl m) = inl (omega arith)
 less-then-trans a b c f (inr (e, x)) (inr (g, y)) = inr (e ∙ g, f x y)
 
+-- each way: the numbers are equal, and the rest holds each way
+less-then-same : (a b : ℕ) {X Y : Type 0} → Less-then a b X → Less-then b a Y → (a ≡ b) × X × Y
+less-then-same a b {X} {Y} (inl l) m = let h = less-then-le b a m in absurd (omega arith)
+less-then-same a b {X} {Y} (inr (e, x)) (inl m) = absurd (omega arith)
+less-then-same a b (inr (e, x)) (inr (g, y)) = (e, x, y)
+
 -- ---- from the last leg back
 
 back-total : (N : Network) (x y : List Ride) → Back-upto N x y ⊎ Back-upto N y x
 back-total N [] y = inl tt
 back-total N (r ∷ rs) [] = inr tt
 back-total N (r ∷ rs) (s ∷ ss) =
-    less-then-total (arrives N r) (arrives N s) (less-then-total (r .leg) (s .leg) (back-total N rs ss))
+    less-then-total _ _ (less-then-total _ _ (back-total N rs ss))
 
 back-trans : (N : Network) (x y z : List Ride) → Back-upto N x y → Back-upto N y z → Back-upto N x z
 back-trans N [] y z h k = tt
 back-trans N (r ∷ rs) [] z h k = absurd h
 back-trans N (r ∷ rs) (s ∷ ss) [] h k = absurd k
 back-trans N (r ∷ rs) (s ∷ ss) (t ∷ ts) h k =
-    less-then-trans (arrives N r) (arrives N s) (arrives N t)
-    (less-then-trans (r .leg) (s .leg) (t .leg) (back-trans N rs ss ts))
-    h k
+    less-then-trans _ _ _ (less-then-trans _ _ _ (back-trans N rs ss ts)) h k
 
 pub back-refl : (N : Network) (x : List Ride) → Back-upto N x x
 back-refl N [] = tt
@@ -73,37 +73,25 @@ back-same N [] [] h k = refl
 back-same N [] (s ∷ ss) h k = absurd k
 back-same N (r ∷ rs) [] h k = absurd h
 back-same N (r ∷ rs) (s ∷ ss) h k =
-    let later = less-then-le (arrives N s) (arrives N r) k in
-    let sooner = less-then-le (arrives N r) (arrives N s) h in
-    let h′ = less-then-rest (arrives N r) (arrives N s) h later in
-    let k′ = less-then-rest (arrives N s) (arrives N r) k sooner in
-    let higher = less-then-le (s .leg) (r .leg) k′ in
-    let lower = less-then-le (r .leg) (s .leg) h′ in
-    ap₂ _∷_ (ride-same N r s (omega arith) (omega arith))
-    (back-same N rs ss (less-then-rest (r .leg) (s .leg) h′ higher) (less-then-rest (s .leg) (r .leg) k′ lower))
+    let (when, h′, k′) = less-then-same _ _ h k in
+    let (leg, h″, k″) = less-then-same _ _ h′ k′ in
+    ap₂ _∷_ (ride-same N r s (omega (arith, leg)) (omega (arith, when))) (back-same N rs ss h″ k″)
 
 -- ---- the whole rule
 
 module _ (N : Network) (q : Query) where
   pub upto-total : (x y : List Ride) → Upto N q x y ⊎ Upto N q y x
-  upto-total x y =
-      less-then-total (cost N x) (cost N y)
-      (less-then-total (arrival N q x) (arrival N q y) (less-then-total (length x) (length y) (back-total N x y)))
+  upto-total x y = less-then-total _ _ (less-then-total _ _ (less-then-total _ _ (back-total N x y)))
 
   pub upto-trans : (x y z : List Ride) → Upto N q x y → Upto N q y z → Upto N q x z
-  upto-trans x y z =
-      less-then-trans (cost N x) (cost N y) (cost N z)
-      (less-then-trans (arrival N q x) (arrival N q y) (arrival N q z)
-      (less-then-trans (length x) (length y) (length z) (back-trans N x y z)))
+  upto-trans x y z h k = less-then-trans _ _ _ (less-then-trans _ _ _ (less-then-trans _ _ _ (back-trans N x y z))) h k
 
   pub upto-same : (x y : List Ride) → Upto N q x y → Upto N q y x → x ≡ y
   upto-same x y h k =
-      let h₁ = less-then-rest (cost N x) (cost N y) h (less-then-le (cost N y) (cost N x) k) in
-      let k₁ = less-then-rest (cost N y) (cost N x) k (less-then-le (cost N x) (cost N y) h) in
-      let h₂ = less-then-rest (arrival N q x) (arrival N q y) h₁ (less-then-le (arrival N q y) (arrival N q x) k₁) in
-      let k₂ = less-then-rest (arrival N q y) (arrival N q x) k₁ (less-then-le (arrival N q x) (arrival N q y) h₁) in
-      back-same N x y (less-then-rest (length x) (length y) h₂ (less-then-le (length y) (length x) k₂))
-      (less-then-rest (length y) (length x) k₂ (less-then-le (length x) (length y) h₂))
+      let (cents, h₁, k₁) = less-then-same _ _ h k in
+      let (when, h₂, k₂) = less-then-same _ _ h₁ k₁ in
+      let (legs, h₃, k₃) = less-then-same _ _ h₂ k₂ in
+      back-same N x y h₃ k₃
 
   -- AT MOST ONE PLAN is the named one
   pub named-once : (x y : List Ride) → Named N q x → Named N q y → x ≡ y
@@ -119,13 +107,10 @@ module _ (N : Network) (q : Query) where
       (λ (l : length cut < length plan). inl l)
       (k .shorter)
 
-  no-worse-feasible : (plan cut : List Ride) → NoWorse N q plan cut → Feasible N q plan → Feasible N q cut
-  no-worse-feasible plan cut k f = record { runs = k .runs; there = k .there ∙ f .there; by = omega (arith, k .by, f .by) }
-
   -- THE NAMED PLAN IS SHORT: fewer legs than the network has places
-  pub named-short : InRange N → q .start < N .places → (plan : List Ride) → Named N q plan → length plan < N .places
-  named-short ok home plan h =
-      let (cut, k, short) = cut-short N q ok home plan (h .feasible .runs) in
+  pub named-short : Askable N q → (plan : List Ride) → Named N q plan → length plan < N .places
+  named-short asked plan h =
+      let (cut, k, short) = cut-short N q (asked .ranges) (asked .home) plan (h .feasible .runs) in
       let same : cut ≡ plan =
-      upto-same cut plan (no-worse-upto plan cut k) (h .first cut (no-worse-feasible plan cut k (h .feasible))) in
+      upto-same cut plan (no-worse-upto plan cut k) (h .first cut (no-worse-stands N q (q .end) (q .latest) plan cut k (h .feasible))) in
       omega (arith, short, ap length same)

@@ -1,18 +1,18 @@
 -- The best of finitely many plans: so wherever a feasible plan exists there is a named one, and a minute table exists. Assumes nothing.
-use Prim.Native.Nat.{ℕ, zero, suc, _+_, _≤_, _<_}
+use Prim.Native.Nat.{ℕ, zero, suc, _≤_, _<_}
 use native.Mathlib.Omega.{arith}
 use native.Mathlib.Decide.{ℕ-discrete, decLt, decLe}
-use mathlib.Core.Path.{_≡_, refl, sym, ap, _∙_, subst}
-use mathlib.Core.Logic.{_≢_, _⊎_, inl, inr, ⊎-elim, Dec·and}
+use mathlib.Core.Path.{_≡_, refl, sym, subst}
+use mathlib.Core.Logic.{_⊎_, inl, inr, ⊎-elim, Dec·and}
 use mathlib.Core.Bool.{Bool, true, false}
-use mathlib.Core.List.{List, [], _∷_, _++_, map, List·Memᴰ, List·Memᴰ·head, List·Memᴰ·tail, List·Memᴰ·cases-cons, List·Memᴰ·not-nil, Memᴰ·cast, Memᴰ·append-left, Memᴰ·append-right, Memᴰ·map}
+use mathlib.Core.List.{List, [], _∷_, _++_, map, List·Memᴰ, List·Memᴰ·head, List·Memᴰ·tail, List·Memᴰ·cases-cons, List·Memᴰ·not-nil, Memᴰ·append-left, Memᴰ·append-right, Memᴰ·map}
 use lib.Dec.{T}
 use lib.ListN.{length}
-use Rattle.plan.specs.Network.{Minute, Network, InRange, Query}
-use Rattle.plan.specs.Plan.{Ride, arrives, place, arrival, total, cost, Follows, Runs, Stands, Feasible}
+use Rattle.plan.specs.Network.{Minute, Network, Query, Askable}
+use Rattle.plan.specs.Plan.{Ride, place, arrival, total, Follows, Runs, Stands, Feasible}
 use Rattle.plan.specs.Tie.{Upto, Named}
 use Rattle.plan.specs.Table.{none, weight, Cell, MinuteTable}
-use Rattle.plan.proofs.Circles.{NoWorse, cut-short}
+use Rattle.plan.proofs.Circles.{NoWorse, no-worse-stands, cut-short}
 use Rattle.plan.proofs.Order.{upto-total, upto-trans, no-worse-upto}
 use Rattle.plan.proofs.Cells.{Attained, Least, light, least-cell}
 
@@ -58,7 +58,7 @@ below (suc n) = n ∷ below n
 
 in-below : (k n : ℕ) → k < n → List·Memᴰ k (below n)
 unfolding below
-in-below k zero h = let z : ⊥ = omega arith in absurd z
+in-below k zero h = absurd (omega arith)
 in-below k (suc n) h = at (ℕ-discrete k n) (λ (l : k < n). in-below k n l)
   where
     at : Dec (k ≡ n) → (k < n → List·Memᴰ k (below n)) → List·Memᴰ k (n ∷ below n)
@@ -99,7 +99,7 @@ module _ (N : Network) (q : Query) where
   in-plans : (n : ℕ) (plan : List Ride) → Runs N q plan → arrival N q plan ≤ q .latest → length plan ≤ n → List·Memᴰ plan (plans n)
   unfolding plans
   in-plans zero [] h t l = List·Memᴰ·head refl
-  in-plans zero (r ∷ rs) h t l = let z : ⊥ = omega arith in absurd z
+  in-plans zero (r ∷ rs) h t l = absurd (omega arith)
   in-plans (suc n) [] h t l = List·Memᴰ·head refl
   in-plans (suc n) (r ∷ rs) h t l =
       List·Memᴰ·tail
@@ -140,7 +140,7 @@ module _ (N : Network) (q : Query) where
       at (yes r) (yes h) (no n) = no (λ s. n (s .by))
       at (yes r) (yes h) (yes a) = yes (record { runs = r; there = h; by = a })
 
-  module _ (ok : InRange N) (home : q .start < N .places) where
+  module _ (asked : Askable N q) where
     -- EITHER there is a named plan OR there is no feasible one
     pub named-or-none : ((plan : List Ride) × Named N q plan) ⊎ ((plan : List Ride) → Feasible N q plan → ⊥)
     unfolding Best
@@ -150,8 +150,8 @@ module _ (N : Network) (q : Query) where
         among : (plan : List Ride) → Feasible N q plan
             → (cut : List Ride) × NoWorse N q plan cut × Feasible N q cut × List·Memᴰ cut (plans (N .places))
         among plan f =
-            let (cut, k, short) = cut-short N q ok home plan (f .runs) in
-            let f′ : Feasible N q cut = record { runs = k .runs; there = k .there ∙ f .there; by = omega (arith, k .by, f .by) } in
+            let (cut, k, short) = cut-short N q (asked .ranges) (asked .home) plan (f .runs) in
+            let f′ = no-worse-stands N q (q .end) (q .latest) plan cut k f in
             (cut, k, f′, in-plans (N .places) cut (k .runs) (f′ .by) (omega arith))
 
         at : Best (Upto N q) (upto-total N q) (upto-trans N q) (Feasible N q) (dec-stands (q .end) (q .latest)) (plans (N .places))
@@ -197,8 +197,8 @@ module _ (N : Network) (q : Query) where
         among : (plan : List Ride) → Stands N q p t plan
             → (cut : List Ride) × NoWorse N q plan cut × Stands N q p t cut × List·Memᴰ cut (plans (N .places))
         among plan s =
-            let (cut, k, short) = cut-short N q ok home plan (s .runs) in
-            let s′ : Stands N q p t cut = record { runs = k .runs; there = k .there ∙ s .there; by = omega (arith, k .by, s .by) } in
+            let (cut, k, short) = cut-short N q (asked .ranges) (asked .home) plan (s .runs) in
+            let s′ = no-worse-stands N q p t plan cut k s in
             (cut, k, s′, in-plans (N .places) cut (k .runs) (omega (arith, s′ .by)) (omega arith))
 
         at : Best lighter lighter-total lighter-trans (Stands N q p t) (dec-stands p t) (plans (N .places)) → (v : ℕ) × Least N q p t v
@@ -210,7 +210,7 @@ module _ (N : Network) (q : Query) where
                 attained = λ ne. (x, sx, refl);
                 bound = bound;
                 there = λ other s.
-                    let (cut, m, sc, few, small) = light N q ok home p t other s in
+                    let (cut, m, sc, few, small) = light N q asked p t other s in
                     omega (arith, bound cut sc, small);
               },
             )
@@ -234,5 +234,5 @@ module _ (N : Network) (q : Query) where
     table-exists = (λ p t. leastAt p t (decLe t (q .latest)), λ p t hp early late. at p t (decLe t (q .latest)) late)
       where
         at : (p : ℕ) (t : Minute) (d : Dec (t ≤ q .latest)) → t ≤ q .latest → Cell N q p t (leastAt p t d)
-        at p t (yes h) late = least-cell N q ok home p t (least-exists p t h .0) (least-exists p t h .1)
+        at p t (yes h) late = least-cell N q asked p t (least-exists p t h .0) (least-exists p t h .1)
         at p t (no n) late = absurd (n late)

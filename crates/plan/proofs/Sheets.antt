@@ -1,22 +1,22 @@
 -- Sheets: values of a sheet stay or fall; the least costs obey rules (a) and (b), so our sheet passes the gate and is tight.
 -- Assumes nothing.
-use Prim.Native.Nat.{ℕ, zero, suc, _+_, _*_, _/_, _≤_, _<_}
+use Prim.Native.Nat.{ℕ, _+_, _/_, _≤_, _<_}
 use native.Mathlib.Omega.{arith}
-use native.Mathlib.Decide.{ℕ-discrete, decLt}
-use mathlib.Core.Path.{_≡_, refl, sym, ap, _∙_, subst}
-use mathlib.Core.Logic.{_≢_, _⊎_, inl, inr, ⊎-elim}
-use mathlib.Core.Bool.{Bool, true, false, cond, not}
+use native.Mathlib.Decide.{decLt}
+use mathlib.Core.Path.{_≡_, refl, sym, ap, subst}
+use mathlib.Core.Bool.{Bool, true, false, cond}
 use mathlib.Core.Option.{Option, none, some}
 use mathlib.Core.List.{List, [], _∷_}
-use lib.Dec.{T, leb, eqb, leb→le, le→leb, eqb→eq}
+use lib.Dec.{T, leb, eqb, leb→le, le→leb}
 use lib.ListN.{length, getD, List·getD-eq-default}
-use Rattle.plan.specs.Network.{Minute, Cents, Network, InRange, Query}
-use Rattle.plan.specs.Plan.{Ride, total, cost, Stands, Feasible}
+use Rattle.plan.specs.Network.{Minute, Cents, Network, Query, Askable}
+use Rattle.plan.specs.Plan.{Ride, cost, Stands, Feasible}
 use Rattle.plan.specs.Tie.{Named}
-use Rattle.plan.specs.Table.{weight, MinuteTable}
+use Rattle.plan.specs.Table.{MinuteTable}
 use Rattle.plan.specs.Table as table
 use Rattle.plan.specs.Sheet.{Step, orElse, value, valueAt, StepsAfter, Steps, AtMost, Obeys, TightFor, LeastCost, OurSheet}
 use Rattle.plan.proofs.Tests.{Is, eqb-is}
+use Rattle.plan.proofs.Standing.{stands-start, stands-ride}
 use Rattle.plan.proofs.Values.{Falls}
 use Rattle.plan.proofs.Order.{less-then-le}
 use Rattle.plan.proofs.Cells.{Attained, Least}
@@ -63,7 +63,7 @@ step-falls none v′ true true price x f low ih e =
     let same : price ≡ x = cc in
     subst (λ (z : Cents). AtMost (orElse v′ (some price)) z) same (below-at-most v′ price low)
 step-falls none v′ true false price x f low ih e = absurd (f tt)
-step-falls none v′ false b′ price x f low ih e = let z : _≡_ {A = ℕ} 0 1 = cc in let no-such : ⊥ = omega arith in absurd no-such
+step-falls none v′ false b′ price x f low ih e = let z : _≡_ {A = ℕ} 0 1 = cc in absurd (omega arith)
 
 after-falls : (q : Query) (s : Step) (ss : List Step) → StepsAfter q s ss → (t u : Minute) (x : Cents) → t ≤ u
     → value (s ∷ ss) t ≡ some x
@@ -72,7 +72,7 @@ after-falls q s [] h t u x l e =
     step-falls none none (leb (s .minute) t) (leb (s .minute) u) (s .price) x
     (λ b. le→leb (s .minute) u (omega (arith, leb→le (s .minute) t b)))
     tt
-    (λ y e′. let z : _≡_ {A = ℕ} 0 1 = cc in let no-such : ⊥ = omega arith in absurd no-such)
+    (λ y e′. let z : _≡_ {A = ℕ} 0 1 = cc in absurd (omega arith))
     e
 after-falls q s (s′ ∷ ss) h t u x l e =
     step-falls (value (s′ ∷ ss) t) (value (s′ ∷ ss) u) (leb (s .minute) t) (leb (s .minute) u) (s .price) x
@@ -82,7 +82,7 @@ after-falls q s (s′ ∷ ss) h t u x l e =
     e
 
 pub steps-fall : (q : Query) (ss : List Step) → Steps q ss → (t u : Minute) (x : Cents) → t ≤ u → value ss t ≡ some x → AtMost (value ss u) x
-steps-fall q [] h t u x l e = let z : _≡_ {A = ℕ} 0 1 = cc in let no-such : ⊥ = omega arith in absurd no-such
+steps-fall q [] h t u x l e = let z : _≡_ {A = ℕ} 0 1 = cc in absurd (omega arith)
 steps-fall q (s ∷ ss) h t u x l e = after-falls q s ss (h .1) t u x l e
 
 -- A SHEET'S VALUES STAY OR FALL, if each place's steps are as described
@@ -104,35 +104,31 @@ zero-at-most : (v : Option Cents) → AtMost v 0 → v ≡ some 0
 zero-at-most none h = absurd h
 zero-at-most (some v) h = let z : v ≡ 0 = omega arith in ap some z
 
-module _ (N : Network) (q : Query) (ok : InRange N) (home : q .start < N .places) (window : q .earliest ≤ q .latest)
+module _ (N : Network) (q : Query) (asked : Askable N q)
     (v : ℕ → Minute → Option Cents)
     (costs : (p : ℕ) (t : Minute) → p < N .places → q .earliest ≤ t → t ≤ q .latest → LeastCost N q p t (v p t)) where
   -- THE LEAST COSTS OBEY THE RULES
   pub least-obeys : Obeys N q v
   least-obeys = record {
     a = zero-at-most (v (q .start) (q .earliest))
-        (least-none N q (q .start) (q .earliest) (v (q .start) (q .earliest)) (costs (q .start) (q .earliest) home (omega arith) window) []
-        (record { runs = tt; there = refl; by = omega arith }));
+        (least-none N q (q .start) (q .earliest) (v (q .start) (q .earliest)) (costs (q .start) (q .earliest) (asked .home) (omega arith) (asked .window)) []
+        (stands-start N q (q .earliest) (omega arith)));
     b = λ l d x known goes early late e.
-        let paid = subst (λ (o : Option Cents). LeastCost N q (N .source l) d o) e (costs (N .source l) d (ok .sources l known) early (omega arith)) in
+        let paid = subst (λ (o : Option Cents). LeastCost N q (N .source l) d o) e (costs (N .source l) d (asked .ranges .sources l known) early (omega arith)) in
         let (plan, s, same) = paid .0 in
         let arrive =
         least-none N q (N .target l) (d + N .time l) (v (N .target l) (d + N .time l))
-        (costs (N .target l) (d + N .time l) (ok .targets l known) (omega arith) late)
+        (costs (N .target l) (d + N .time l) (asked .ranges .targets l known) (omega arith) late)
         (record { leg = l; leave = d } ∷ plan)
-        (record {
-          runs = (record { known = known; goes = goes; here = sym (s .there); after = s .by }, s .runs);
-          there = refl;
-          by = omega arith;
-        }) in
+        (stands-ride N q l d known goes plan s) in
         subst (λ (y : Cents). AtMost (v (N .target l) (d + N .time l)) (y + N .toll l d)) same arrive;
   }
 
   -- and they are tight: for a plan that none undercuts, and where there is no plan
-  pub least-tight : q .end < N .places → (plan : List Ride) → Feasible N q plan
+  pub least-tight : (plan : List Ride) → Feasible N q plan
       → ((other : List Ride) → Feasible N q other → cost N plan ≤ cost N other)
       → TightFor q v (some (cost N plan))
-  least-tight goal plan f least = at (v (q .end) (q .latest)) (costs (q .end) (q .latest) goal window (omega arith))
+  least-tight plan f least = at (v (q .end) (q .latest)) (costs (q .end) (q .latest) (asked .goal) (asked .window) (omega arith))
     where
       at : (o : Option Cents) → LeastCost N q (q .end) (q .latest) o → o ≡ some (cost N plan)
       at none h = absurd (h plan f)
@@ -141,8 +137,8 @@ module _ (N : Network) (q : Query) (ok : InRange N) (home : q .start < N .places
           let e : x ≡ cost N plan = omega (arith, h .1 plan f, least other s, same) in
           ap some e
 
-  pub none-tight : q .end < N .places → ((plan : List Ride) → Feasible N q plan → ⊥) → TightFor q v none
-  none-tight goal never = at (v (q .end) (q .latest)) (costs (q .end) (q .latest) goal window (omega arith))
+  pub none-tight : ((plan : List Ride) → Feasible N q plan → ⊥) → TightFor q v none
+  none-tight never = at (v (q .end) (q .latest)) (costs (q .end) (q .latest) (asked .goal) (asked .window) (omega arith))
     where
       at : (o : Option Cents) → LeastCost N q (q .end) (q .latest) o → o ≡ none
       at none h = refl
@@ -154,40 +150,38 @@ module _ (N : Network) (q : Query) (ok : InRange N) (home : q .start < N .places
 abbrev pub costOf : ℕ → Option Cents
 costOf cell = cond (eqb cell table.none) none (some (cell / 64))
 
-module _ (N : Network) (q : Query) (ok : InRange N) (home : q .start < N .places) (goal : q .end < N .places)
-    (window : q .earliest ≤ q .latest) (c : ℕ → Minute → ℕ) (m : MinuteTable N q c) where
+module _ (N : Network) (q : Query) (asked : Askable N q) (c : ℕ → Minute → ℕ) (m : MinuteTable N q c) where
   -- A CELL SHOWS THE LEAST COST
   pub cell-cost : (p : ℕ) (t : Minute) → p < N .places → q .earliest ≤ t → t ≤ q .latest → LeastCost N q p t (costOf (c p t))
   unfolding Attained
   cell-cost p t hp early late = at (eqb (c p t) table.none) (eqb-is (c p t) table.none)
     where
       least : Least N q p t (c p t)
-      least = table-least N q ok home c m p t hp early late
+      least = table-least N q asked c m p t hp early late
 
       at : (b : Bool) → Is b (c p t ≡ table.none) → LeastCost N q p t (cond b none (some (c p t / 64)))
       at true e = λ plan s. least .there plan s e
       at false ne =
           let (plan, s, e) = least .attained ne in (
-            (plan, s, sym (shown N q ok home c m p t hp early late plan s e .1)),
-            λ other so. cost-shown N q ok home goal window c m p t hp early late other so,
+            (plan, s, sym (shown N q asked c m p t hp early late plan s e .1)),
+            λ other so. cost-shown N q asked c m p t hp early late other so,
           )
 
 -- ---- our sheet
 
-module _ (N : Network) (q : Query) (ok : InRange N) (home : q .start < N .places) (goal : q .end < N .places)
-    (window : q .earliest ≤ q .latest) (sheet : List (List Step)) (s : OurSheet N q sheet) where
+module _ (N : Network) (q : Query) (asked : Askable N q) (sheet : List (List Step)) (s : OurSheet N q sheet) where
   pub our-sheet-falls : Falls q (valueAt sheet)
   our-sheet-falls = sheet-falls q sheet (λ p h. s .steps p (omega (arith, s .size)))
 
   -- OUR SHEET OBEYS THE RULES
   pub our-sheet-obeys : Obeys N q (valueAt sheet)
-  our-sheet-obeys = least-obeys N q ok home window (valueAt sheet) (s .costs)
+  our-sheet-obeys = least-obeys N q asked (valueAt sheet) (s .costs)
 
   -- AND IS TIGHT for the named plan, or for "none"
   pub our-sheet-tight : (plan : List Ride) → Named N q plan → TightFor q (valueAt sheet) (some (cost N plan))
   our-sheet-tight plan h =
-      least-tight N q ok home window (valueAt sheet) (s .costs) goal plan (h .feasible)
+      least-tight N q asked (valueAt sheet) (s .costs) plan (h .feasible)
       (λ other f. less-then-le (cost N plan) (cost N other) (h .first other f))
 
   pub our-sheet-none : ((plan : List Ride) → Feasible N q plan → ⊥) → TightFor q (valueAt sheet) none
-  our-sheet-none never = none-tight N q ok home window (valueAt sheet) (s .costs) goal never
+  our-sheet-none never = none-tight N q asked (valueAt sheet) (s .costs) never

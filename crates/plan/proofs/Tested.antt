@@ -1,15 +1,14 @@
 -- A table that passes a computed test is a minute table, and a plan that passes one against it is the named plan. Assumes nothing.
-use Prim.Native.Nat.{ℕ, zero, suc, _+_, _*_, _-_, _/_, _≤_, _<_}
+use Prim.Native.Nat.{ℕ, zero, suc, _+_, _-_, _/_, _≤_, _<_}
 use native.Mathlib.Omega.{arith}
 use native.Mathlib.Nat.{add-zero}
-use native.Mathlib.Decide.{ℕ-discrete}
-use mathlib.Core.Path.{_≡_, refl, sym, ap, _∙_, subst}
-use mathlib.Core.Logic.{_≢_, _⊎_, inl, inr, ⊎-elim}
-use mathlib.Core.Bool.{Bool, true, false, not, _&&_, _||_}
+use mathlib.Core.Path.{_≡_, sym, ap, _∙_, subst}
+use mathlib.Core.Logic.{_⊎_, inl, inr, ⊎-elim}
+use mathlib.Core.Bool.{Bool, not, _&&_, _||_}
 use mathlib.Core.List.{List, [], _∷_}
 use lib.Dec.{T, leb, ltb, eqb, leb→le, ltb→lt, le→leb, eqb→eq, T-not}
-use Rattle.plan.specs.Network.{Minute, Network, InRange, Query}
-use Rattle.plan.specs.Plan.{Ride, arrives, arrival, total}
+use Rattle.plan.specs.Network.{Minute, Network, Query, Askable}
+use Rattle.plan.specs.Plan.{Ride, arrives, arrival}
 use Rattle.plan.specs.Tie.{Named}
 use Rattle.plan.specs.Table.{none, weight, MinuteTable}
 use Rattle.plan.proofs.Tests.{and-left, and-right, and-both, or-cases, unless-not, eq-eqb, not-eqb, everyFrom, every-at, anyBelow, any-at, at-any}
@@ -72,7 +71,7 @@ module _ (N : Network) (q : Query) (c : ℕ → Minute → ℕ) where
   unfoldable pub table? : Bool
   table? = eqb (c (q .start) (q .earliest)) 0 && everyFrom (q .latest + 1 - q .earliest) (q .earliest) column?
 
-  module _ (ok : InRange N) (home : q .start < N .places) (h : T table?) where
+  module _ (asked : Askable N q) (h : T table?) where
     column-at : (t : Minute) → q .earliest ≤ t → t ≤ q .latest → T (column? t)
     unfolding table?
     column-at t early late =
@@ -121,7 +120,7 @@ module _ (N : Network) (q : Query) (c : ℕ → Minute → ℕ) where
         ridden l known f =
             let fit = test-fits p t l known f in
             let before =
-            ih (N .source l) (t - N .time l) (ok .sources l known) (fit .early) (omega arith) (omega (arith, fit .explains))
+            ih (N .source l) (t - N .time l) (asked .ranges .sources l known) (fit .early) (omega arith) (omega (arith, fit .explains))
             (omega (arith, fit .explains)) in
             let after = attained-ride N q l (t - N .time l) (c (N .source l) (t - N .time l)) known (fit .goes) before in
             subst (λ (v : ℕ). Attained N q p t v) (fit .explains)
@@ -133,7 +132,7 @@ module _ (N : Network) (q : Query) (c : ℕ → Minute → ℕ) where
             ⊎ T ((eqb p (q .start) && eqb (c p t) 0)
             || ((ltb (q .earliest) t && eqb (c p (t - 1)) (c p t)) || anyBelow (N .legs) (fits? p t)))
             → Attained N q p t (c p t)
-        at (inl e) = let z : ⊥ = omega (arith, eqb→eq (c p t) none e) in absurd z
+        at (inl e) = absurd (omega (arith, eqb→eq (c p t) none e))
         at (inr o) =
             ⊎-elim begun
             (λ (o₂ : T ((ltb (q .earliest) t && eqb (c p (t - 1)) (c p t)) || anyBelow (N .legs) (fits? p t))).
@@ -143,7 +142,7 @@ module _ (N : Network) (q : Query) (c : ℕ → Minute → ℕ) where
             (or-cases (eqb p (q .start) && eqb (c p t) 0) _ o)
 
     ground : (k : ℕ) → Ground k
-    ground zero = λ p t hp early late fuel n. let z : ⊥ = omega arith in absurd z
+    ground zero = λ p t hp early late fuel n. absurd (omega arith)
     ground (suc k) = ground-step k (ground k)
 
     test-attained : AttainedCells N q c
@@ -168,7 +167,7 @@ module _ (N : Network) (q : Query) (c : ℕ → Minute → ℕ) where
         here = and-right (leb (c p (t + suc n)) none) _ (settled-at p (t + suc n) hp (omega arith) late)
 
         step : T (leb (t + suc n) (q .earliest)) ⊎ T (leb (c p (t + suc n)) (c p (t + suc n - 1))) → c p (t + suc n) ≤ c p (t + suc n - 1)
-        step (inl b) = let z : ⊥ = omega (arith, leb→le (t + suc n) (q .earliest) b) in absurd z
+        step (inl b) = absurd (omega (arith, leb→le (t + suc n) (q .earliest) b))
         step (inr b) = leb→le (c p (t + suc n)) (c p (t + suc n - 1)) b
 
     test-obeys : ObeysCells N q c
@@ -191,7 +190,7 @@ module _ (N : Network) (q : Query) (c : ℕ → Minute → ℕ) where
 
     -- A TABLE THAT PASSES is a minute table
     pub test-exact : MinuteTable N q c
-    test-exact = exact N q ok home c test-attained test-obeys
+    test-exact = exact N q asked c test-attained test-obeys
 
   -- ---- a plan against the table
 
@@ -216,7 +215,7 @@ module _ (N : Network) (q : Query) (c : ℕ → Minute → ℕ) where
       && (leb (arrival N q plan) (q .earliest) || not (eqb (c (q .end) (arrival N q plan - 1) / 64) (c (q .end) (q .latest) / 64))))
       && best? (q .end) (arrival N q plan) plan)
 
-  module _ (ok : InRange N) (home : q .start < N .places) (window : q .earliest ≤ q .latest) (m : MinuteTable N q c) where
+  module _ (asked : Askable N q) (m : MinuteTable N q c) where
     -- of falling cells the one just before tells
     test-first : (p : ℕ) (a : Minute) → p < N .places → a ≤ q .latest → T (first? p a) → FirstAt q c p a
     test-first p a hp late h t early before e = at (or-cases (leb a (q .earliest)) _ h)
@@ -224,7 +223,7 @@ module _ (N : Network) (q : Query) (c : ℕ → Minute → ℕ) where
         at : T (leb a (q .earliest)) ⊎ T (not (eqb (c p (a - 1)) (c p a))) → ⊥
         at (inl b) = omega (arith, leb→le a (q .earliest) b)
         at (inr b) =
-            let o = table-obeys N q ok home c m window in
+            let o = table-obeys N q asked c m in
             let down = o .waits p t (a - 1) hp early (omega arith) (omega arith) in
             let last = o .waits p (a - 1) a hp (omega arith) (omega arith) late in
             not-eqb (c p (a - 1)) (c p a) b (omega arith)
@@ -236,7 +235,7 @@ module _ (N : Network) (q : Query) (c : ℕ → Minute → ℕ) where
         let here = eqb→eq p (q .start) (and-left (eqb p (q .start)) _ h) in
         let free = eqb→eq (c p d) 0 (and-right (eqb p (q .start)) _ h) in
         subst (λ (x : ℕ). Best N q c x d []) (sym here)
-        (best-stop N q ok home c m d early (ap (λ (x : ℕ). c x d) (sym here) ∙ free))
+        (best-stop N q c d early (ap (λ (x : ℕ). c x d) (sym here) ∙ free))
     test-best (r ∷ rs) p d hp early late h =
         let settled = and-left (leb (arrives N r) d && eqb (c p (arrives N r)) (c p d)) _ h in
         let rest = and-right (leb (arrives N r) d && eqb (c p (arrives N r)) (c p d)) _ h in
@@ -253,19 +252,19 @@ module _ (N : Network) (q : Query) (c : ℕ → Minute → ℕ) where
         let when : arrives N r - N .time (r .leg) ≡ r .leave = omega arith in
         let fit : Fits N q c p (arrives N r) (r .leg) (r .leave) =
         rw when at (test-fits p (arrives N r) (r .leg) known (and-right (ltb (r .leg) (N .legs)) _ this)) in
-        best-wait N q ok home c m p (arrives N r) d (r ∷ rs) soon same
-        (best-ride N q ok home c m window p (arrives N r) hp (omega (arith, fit .early)) (omega arith) first (r .leg) (r .leave) fit
+        best-wait N q c p (arrives N r) d (r ∷ rs) soon same
+        (best-ride N q asked c m p (arrives N r) hp (omega arith) first (r .leg) (r .leave) fit
         (λ l′ d′ low f′.
         T-not (anyBelow (r .leg) (fits? p (arrives N r)))
         (and-right (ltb (r .leg) (N .legs) && fits? p (arrives N r) (r .leg)) _ leg)
         (at-any (r .leg) (fits? p (arrives N r)) l′ low (fits-test p (arrives N r) l′ d′ f′)))
         rs
-        (test-best rs (N .source (r .leg)) (r .leave) (ok .sources (r .leg) known) (fit .early) (omega arith) before))
+        (test-best rs (N .source (r .leg)) (r .leave) (asked .ranges .sources (r .leg) known) (fit .early) (omega arith) before))
 
     -- A PLAN THAT PASSES is the named plan
-    pub test-named : q .end < N .places → (plan : List Ride) → T (named? plan) → Named N q plan
+    pub test-named : (plan : List Ride) → T (named? plan) → Named N q plan
     unfolding named?
-    test-named goal plan h =
+    test-named plan h =
         let inside = and-left (leb (q .earliest) (arrival N q plan) && leb (arrival N q plan) (q .latest)) _ h in
         let rest = and-right (leb (q .earliest) (arrival N q plan) && leb (arrival N q plan) (q .latest)) _ h in
         let cheap = and-left (eqb (c (q .end) (arrival N q plan) / 64) (c (q .end) (q .latest) / 64)
@@ -276,10 +275,10 @@ module _ (N : Network) (q : Query) (c : ℕ → Minute → ℕ) where
         let late = leb→le (arrival N q plan) (q .latest) (and-right (leb (q .earliest) (arrival N q plan)) _ inside) in
         let same = eqb→eq _ _ (and-left (eqb (c (q .end) (arrival N q plan) / 64) (c (q .end) (q .latest) / 64)) _ cheap) in
         let before = and-right (eqb (c (q .end) (arrival N q plan) / 64) (c (q .end) (q .latest) / 64)) _ cheap in
-        best-named N q ok home goal window c m (arrival N q plan) early late same
+        best-named N q asked c m (arrival N q plan) early late same
         (λ t low sooner e. at t low sooner late e (or-cases (leb (arrival N q plan) (q .earliest)) _ before))
         plan
-        (test-best plan (q .end) (arrival N q plan) goal early late best)
+        (test-best plan (q .end) (arrival N q plan) (asked .goal) early late best)
       where
         at : (t : Minute) → q .earliest ≤ t → t < arrival N q plan → arrival N q plan ≤ q .latest
             → c (q .end) t / 64 ≡ c (q .end) (q .latest) / 64
@@ -287,7 +286,7 @@ module _ (N : Network) (q : Query) (c : ℕ → Minute → ℕ) where
             → ⊥
         at t low sooner late e (inl b) = omega (arith, leb→le (arrival N q plan) (q .earliest) b)
         at t low sooner late e (inr b) =
-            let o = table-obeys N q ok home c m window in
-            let down = o .waits (q .end) t (arrival N q plan - 1) goal low (omega arith) (omega arith) in
-            let last = o .waits (q .end) (arrival N q plan - 1) (q .latest) goal (omega arith) (omega arith) (omega arith) in
+            let o = table-obeys N q asked c m in
+            let down = o .waits (q .end) t (arrival N q plan - 1) (asked .goal) low (omega arith) (omega arith) in
+            let last = o .waits (q .end) (arrival N q plan - 1) (q .latest) (asked .goal) (omega arith) (omega arith) (omega arith) in
             not-eqb (c (q .end) (arrival N q plan - 1) / 64) (c (q .end) (q .latest) / 64) b (omega arith)

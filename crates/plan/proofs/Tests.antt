@@ -2,8 +2,8 @@
 use Prim.Native.Nat.{ℕ, zero, suc, _+_, _≤_, _<_}
 use native.Mathlib.Omega.{arith}
 use native.Mathlib.Decide.{ℕ-discrete}
-use mathlib.Core.Path.{_≡_, refl, sym, ap, subst}
-use mathlib.Core.Logic.{_≢_, _⊎_, inl, inr, ⊎-elim}
+use mathlib.Core.Path.{_≡_, sym, subst}
+use mathlib.Core.Logic.{_≢_, _⊎_, inl, inr}
 use mathlib.Core.Bool.{Bool, true, false, not, _&&_, _||_}
 use lib.Dec.{T, eqb, eqb→eq, eqb-refl, T-not}
 
@@ -53,7 +53,7 @@ everyFrom (suc n) a f = f a && everyFrom n (suc a) f
 
 pub every-at : (n a : ℕ) (f : ℕ → Bool) → T (everyFrom n a f) → (k : ℕ) → a ≤ k → k < a + n → T (f k)
 unfolding everyFrom
-every-at zero a f h k low high = let z : ⊥ = omega arith in absurd z
+every-at zero a f h k low high = absurd (omega arith)
 every-at (suc n) a f h k low high = at (ℕ-discrete a k) (λ (l : suc a ≤ k). every-at n (suc a) f (and-right (f a) (everyFrom n (suc a) f) h) k l (omega arith))
   where
     at : Dec (a ≡ k) → (suc a ≤ k → T (f k)) → T (f k)
@@ -84,7 +84,7 @@ or-right false b h = h
 
 pub at-any : (n : ℕ) (f : ℕ → Bool) (k : ℕ) → k < n → T (f k) → T (anyBelow n f)
 unfolding anyBelow
-at-any zero f k l h = let z : ⊥ = omega arith in absurd z
+at-any zero f k l h = absurd (omega arith)
 at-any (suc n) f k l h = at (ℕ-discrete n k) (λ (m : k < n). at-any n f k m h)
   where
     at : Dec (n ≡ k) → (k < n → T (anyBelow n f)) → T (f n || anyBelow n f)

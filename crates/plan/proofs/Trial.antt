@@ -1,24 +1,17 @@
 -- The ten rows and the sheet, each by one computed test and one law.
 -- The tables below are only handed to the test: nothing rests on where they come from. Assumes nothing.
-use Prim.Native.Nat.{ℕ, zero, suc, _+_, _*_, _/_, _≤_, _<_}
-use native.Mathlib.Omega.{arith}
-use mathlib.Core.Path.{_≡_, refl, sym, ap, _∙_, subst}
-use mathlib.Core.Bool.{Bool, true, false, not, _&&_, _||_, cond}
+use Prim.Native.Nat.{ℕ, _+_, _*_}
+use mathlib.Core.Bool.{Bool, true, false, _&&_, cond}
 use mathlib.Core.List.{List, [], _∷_}
-use lib.Dec.{T, leb, ltb, eqb, leb→le, ltb→lt, le→leb, eqb→eq, lit<, lit≤}
-use lib.ListN.{length, getD}
-use Rattle.leg.specs.declared.Band.{Band}
-use Rattle.leg.specs.declared.Leg.{Leg}
-use Rattle.leg.specs.Ranges.{noBand}
-use Rattle.leg.specs.Toll.{either, tollOfFirst, tollAt}
-use Rattle.plan.specs.Network.{Minute, Network, InRange, Query}
-use Rattle.plan.specs.Plan.{Ride, arrival, cost, Feasible}
-use Rattle.plan.specs.Tie.{Named}
+use lib.Dec.{T, leb, ltb, eqb, leb→le, ltb→lt, eqb→eq}
+use lib.ListN.{getD}
+use Rattle.leg.specs.Toll.{either, tollOfFirst}
+use Rattle.plan.specs.Network.{Minute, Network, InRange, Query, Askable}
+use Rattle.plan.specs.Plan.{arrival, cost}
 use Rattle.plan.specs.Table.{none, MinuteTable}
 use Rattle.plan.specs.Sheet.{Step}
-use Rattle.plan.specs.Legs.{noLeg, networkOf}
 use Rattle.plan.specs.Trial.{Says, ten, route, Row, Right, AllRight, legs, trial, rows}
-use Rattle.plan.proofs.Tests.{and-left, and-right, everyFrom, every-at, anyBelow}
+use Rattle.plan.proofs.Tests.{and-left, and-right, everyFrom, anyBelow}
 use Rattle.plan.proofs.Tested.{table?, named?, best?, test-exact, test-named}
 use Rattle.plan.proofs.Named.{none-feasible}
 use Rattle.plan.proofs.Legs.{legs?, test-legs}
@@ -58,29 +51,28 @@ test-row N ok q c says h = at says said
     tested : T (table? N q c && says? N q c says)
     tested = and-right (ltb (q .start) (N .places) && (ltb (q .end) (N .places) && leb (q .earliest) (q .latest))) _ h
 
-    home : q .start < N .places
-    home = ltb→lt (q .start) (N .places) (and-left (ltb (q .start) (N .places)) _ query)
+    ends : T (ltb (q .end) (N .places) && leb (q .earliest) (q .latest))
+    ends = and-right (ltb (q .start) (N .places)) _ query
 
-    more : T (ltb (q .end) (N .places) && leb (q .earliest) (q .latest))
-    more = and-right (ltb (q .start) (N .places)) _ query
-
-    goal : q .end < N .places
-    goal = ltb→lt (q .end) (N .places) (and-left (ltb (q .end) (N .places)) _ more)
-
-    window : q .earliest ≤ q .latest
-    window = leb→le (q .earliest) (q .latest) (and-right (ltb (q .end) (N .places)) _ more)
+    asked : Askable N q
+    asked = record {
+      ranges = ok;
+      home = ltb→lt (q .start) (N .places) (and-left (ltb (q .start) (N .places)) _ query);
+      goal = ltb→lt (q .end) (N .places) (and-left (ltb (q .end) (N .places)) _ ends);
+      window = leb→le (q .earliest) (q .latest) (and-right (ltb (q .end) (N .places)) _ ends);
+    }
 
     m : MinuteTable N q c
-    m = test-exact N q c ok home (and-left (table? N q c) _ tested)
+    m = test-exact N q c asked (and-left (table? N q c) _ tested)
 
     said : T (says? N q c says)
     said = and-right (table? N q c) _ tested
 
     at : (s : Says) → T (says? N q c s) → Right N q s
-    at ten t = none-feasible N q ok home goal window c m (eqb→eq (c (q .end) (q .latest)) none t)
+    at ten t = none-feasible N q asked c m (eqb→eq (c (q .end) (q .latest)) none t)
     at (route x a plan) t =
         let sums = and-right (named? N q c plan) _ t in (
-          test-named N q c ok home window m goal plan (and-left (named? N q c plan) _ t),
+          test-named N q c asked m plan (and-left (named? N q c plan) _ t),
           eqb→eq (cost N plan) x (and-left (eqb (cost N plan) x) _ sums),
           eqb→eq (arrival N q plan) a (and-right (eqb (cost N plan) x) _ sums),
         )

@@ -1,14 +1,14 @@
 -- The trial sheet is our sheet, by a computed test against a minute table. Assumes nothing.
-use Prim.Native.Nat.{ℕ, suc, _+_, _≤_, _<_}
+use Prim.Native.Nat.{ℕ, _+_, _<_}
 use native.Mathlib.Omega.{arith}
-use mathlib.Core.Path.{_≡_, refl, sym, ap, subst}
+use mathlib.Core.Path.{_≡_, refl, ap, subst}
 use mathlib.Core.Bool.{Bool, true, false, _&&_}
 use mathlib.Core.Option.{Option, none, some}
 use mathlib.Core.List.{List, [], _∷_}
 use lib.Dec.{T, leb, ltb, eqb, leb→le, ltb→lt, eqb→eq, lit<, lit≤}
 use lib.ListN.{length, getD}
 use Rattle.leg.specs.Toll.{either, tollOfFirst}
-use Rattle.plan.specs.Network.{Minute, Cents, Network, InRange, Query}
+use Rattle.plan.specs.Network.{Minute, Cents, Network, Query, Askable}
 use Rattle.plan.specs.Table.{MinuteTable}
 use Rattle.plan.specs.Sheet.{Step, valueAt, StepsAfter, Steps, LeastCost, OurSheet}
 use Rattle.plan.specs.Trial.{trial, sheetQuery, sheet}
@@ -68,11 +68,10 @@ unfolding place?
 sheet? N q c sheet = eqb (length sheet) (N .places) && everyFrom (N .places) 0 (place? q c sheet)
 
 -- A SHEET THAT PASSES is our sheet
-pub test-sheet : (N : Network) (q : Query) → InRange N → q .start < N .places → q .end < N .places → q .earliest ≤ q .latest
-    → (c : ℕ → Minute → ℕ) → MinuteTable N q c → (sheet : List (List Step)) → T (sheet? N q c sheet)
+pub test-sheet : (N : Network) (q : Query) → Askable N q → (c : ℕ → Minute → ℕ) → MinuteTable N q c → (sheet : List (List Step)) → T (sheet? N q c sheet)
     → OurSheet N q sheet
 unfolding sheet? place?
-test-sheet N q ok home goal window c m sheet h = record {
+test-sheet N q asked c m sheet h = record {
   size = eqb→eq (length sheet) (N .places) (and-left (eqb (length sheet) (N .places)) _ h);
   steps = λ p hp. test-steps q (getD sheet p []) (and-left (steps? q (getD sheet p [])) _ (at p hp));
   costs = λ p t hp early late.
@@ -80,7 +79,7 @@ test-sheet N q ok home goal window c m sheet h = record {
       (test-same (costOf (c p t)) (valueAt sheet p t)
       (every-at (q .latest + 1) 0 (λ t. same? (costOf (c p t)) (valueAt sheet p t)) (and-right (steps? q (getD sheet p [])) _ (at p hp)) t
       (omega arith) (omega arith)))
-      (cell-cost N q ok home goal window c m p t hp early late);
+      (cell-cost N q asked c m p t hp early late);
 }
   where
     at : (p : ℕ) → p < N .places → T (place? q c sheet p)
@@ -91,5 +90,5 @@ test-sheet N q ok home goal window c m sheet h = record {
 pub sheet-right : OurSheet trial sheetQuery sheet
 unfolding table? sheet? place? everyFrom anyBelow either tollOfFirst
 sheet-right =
-    test-sheet trial sheetQuery trial-in-range (lit< tt) (lit< tt) (lit≤ tt) (cells from-0)
-    (test-exact trial sheetQuery (cells from-0) trial-in-range (lit< tt) tt) sheet tt
+    let asked : Askable trial sheetQuery = record { ranges = trial-in-range; home = lit< tt; goal = lit< tt; window = lit≤ tt } in
+    test-sheet trial sheetQuery asked (cells from-0) (test-exact trial sheetQuery (cells from-0) asked tt) sheet tt

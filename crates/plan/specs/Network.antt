@@ -33,3 +33,10 @@ pub record Query : Type 0 where
   pub end : ℕ
   pub earliest : Minute
   pub latest : Minute
+
+-- What holds of network and query before anything is planned: ranges kept, both places there, and a window that is not empty.
+pub record Askable (N : Network) (q : Query) : Type 0 where
+  pub ranges : InRange N
+  pub home : q .start < N .places
+  pub goal : q .end < N .places
+  pub window : q .earliest ≤ q .latest
