@@ -25,6 +25,10 @@ pub cost-bound : (N : Network) (q : Query) → InRange N → (plan : List Ride) 
 cost-bound N q ok [] h = omega arith
 cost-bound N q ok (r ∷ rs) h = omega (arith, cost-bound N q ok rs (h .1), ok .tolls (r .leg) (r .leave) (h .0 .known))
 
+-- the largest cell but `none`: 63 legs at 65,535 cents
+abbrev pub largest : ℕ
+largest = 264237183
+
 -- v is the weight of a plan that stands at p at or before t
 unfoldable pub Attained : Network → Query → ℕ → Minute → ℕ → Type 0
 Attained N q p t v = (plan : List Ride) × Stands N q p t plan × (total (weight N) plan ≡ v)
@@ -55,9 +59,9 @@ pub record Least (N : Network) (q : Query) (p : ℕ) (t : Minute) (v : ℕ) : Ty
   pub there : (plan : List Ride) → Stands N q p t plan → v ≢ none
 
 module _ (N : Network) (q : Query) (asked : Askable N q) where
-  -- each plan has one that is no worse, with at most 63 legs and a weight below `none`
+  -- each plan has one that is no worse, with at most 63 legs and no more weight than the largest
   pub light : (p : ℕ) (t : Minute) (plan : List Ride) → Stands N q p t plan
-      → (cut : List Ride) × NoWorse N q plan cut × Stands N q p t cut × (length cut < 64) × (total (weight N) cut < none)
+      → (cut : List Ride) × NoWorse N q plan cut × Stands N q p t cut × (length cut < 64) × (total (weight N) cut ≤ largest)
   light p t plan s =
       let (c, k, h) = cut-short N q (asked .ranges) (asked .home) plan (s .runs) in (
         c,
@@ -74,7 +78,7 @@ module _ (N : Network) (q : Query) (asked : Askable N q) where
   least-cheapest p t plan s h = record { stands = s; least = λ other so. at other so (light p t other so) }
     where
       at : (other : List Ride) → Stands N q p t other
-          → (cut : List Ride) × NoWorse N q other cut × Stands N q p t cut × (length cut < 64) × (total (weight N) cut < none)
+          → (cut : List Ride) × NoWorse N q other cut × Stands N q p t cut × (length cut < 64) × (total (weight N) cut ≤ largest)
           → Less-then (cost N plan) (cost N other) (length plan ≤ length other)
       at other so (c, k, sc, few, small) = or (decLt (cost N plan) (cost N other))
         where
@@ -126,3 +130,33 @@ module _ (N : Network) (q : Query) (asked : Askable N q) where
     bound = λ plan s. absurd (n plan s);
     there = λ plan s. absurd (n plan s);
   }
+
+  -- a cell that is not `none` is at most the largest
+  pub least-largest : (p : ℕ) (t : Minute) (v : ℕ) → Least N q p t v → v ≢ none → v ≤ largest
+  unfolding Attained
+  least-largest p t v k ne =
+      let (plan, s, e) = k .attained ne in
+      let (c, m, sc, few, small) = light p t plan s in
+      omega (arith, small, k .bound c sc)
+
+  least-once : (p : ℕ) (t : Minute) (v w : ℕ) → Least N q p t v → Least N q p t w → v ≢ none → (w ≢ none) × (w ≤ v)
+  unfolding Attained
+  least-once p t v w k m ne =
+      let (plan, s, e) = k .attained ne in
+      (m .there plan s, omega (arith, e, m .bound plan s))
+
+  -- A CELL HOLDS ONE VALUE
+  pub cell-once : (p : ℕ) (t : Minute) (v w : ℕ) → Cell N q p t v → Cell N q p t w → v ≡ w
+  cell-once p t v w h k = at (ℕ-discrete v none) (ℕ-discrete w none)
+    where
+      there : v ≢ none → (w ≢ none) × (w ≤ v)
+      there = least-once p t v w (cell-least p t v h) (cell-least p t w k)
+
+      back : w ≢ none → (v ≢ none) × (v ≤ w)
+      back = least-once p t w v (cell-least p t w k) (cell-least p t v h)
+
+      at : Dec (v ≡ none) → Dec (w ≡ none) → v ≡ w
+      at (yes e) (yes g) = omega arith
+      at (yes e) (no n) = absurd (back n .0 e)
+      at (no n) (yes g) = absurd (there n .0 g)
+      at (no n) (no o) = omega (arith, there n .1, back o .1)

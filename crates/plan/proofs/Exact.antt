@@ -11,7 +11,7 @@ use Rattle.plan.specs.Network.{Minute, Network, Query, Askable}
 use Rattle.plan.specs.Plan.{Ride, total, Stands}
 use Rattle.plan.specs.Table.{none, weight, MinuteTable}
 use Rattle.plan.proofs.Certificate.{Carries, certificate}
-use Rattle.plan.proofs.Cells.{Attained, attained-start, attained-wait, attained-ride, Least, light, least-cell, cell-least}
+use Rattle.plan.proofs.Cells.{Attained, attained-start, attained-wait, attained-ride, Least, light, least-cell, cell-least, least-largest}
 
 -- The cells obey the rules: 0 at the start at earliest, no rise by waiting, and no cell above what a leg gives. (`none` plus anything is not below `none`.)
 pub record ObeysCells (N : Network) (q : Query) (c : ℕ → Minute → ℕ) : Type 0 where
@@ -68,15 +68,11 @@ module _ (N : Network) (q : Query) (asked : Askable N q) (c : ℕ → Minute →
 
   -- no value is above `none`
   pub least-most : (p : ℕ) (t : Minute) (v : ℕ) → Least N q p t v → v ≤ none
-  unfolding Attained
   least-most p t v k = at (ℕ-discrete v none)
     where
       at : Dec (v ≡ none) → v ≤ none
       at (yes e) = omega arith
-      at (no ne) =
-          let (plan, s, e) = k .attained ne in
-          let (cut, m, sc, few, small) = light N q asked p t plan s in
-          omega (arith, small, k .bound cut sc)
+      at (no ne) = omega (arith, least-largest N q asked p t v k ne)
 
   pub table-obeys : MinuteTable N q c → ObeysCells N q c
   table-obeys m = record {

@@ -1,8 +1,9 @@
 -- There is one sheet of given values: steps with rising minutes and falling costs are told by their values. Assumes nothing.
 use Prim.Native.Nat.{ℕ, suc, _≤_, _<_}
 use native.Mathlib.Omega.{arith}
-use native.Mathlib.Decide.{decLt}
+use native.Mathlib.Decide.{ℕ-discrete, decLt}
 use mathlib.Core.Path.{_≡_, refl, sym, ap, ap₂, _∙_, subst}
+use mathlib.Core.Logic.{_↔_}
 use mathlib.Core.Bool.{true, false, cond}
 use mathlib.Core.Option.{Option, none, some}
 use mathlib.Core.List.{List, [], _∷_}
@@ -50,6 +51,26 @@ at-first q s ss h =
 
 from-first : (s : Step) (ss : List Step) (t : Minute) → s .minute ≤ t → value (s ∷ ss) t ≡ orElse (value ss t) (some (s .price))
 from-first s ss t h = ap (λ b. orElse (value ss t) (cond b (some (s .price)) none)) (le-leb (s .minute) t h)
+
+-- rule (a): the value x at earliest is a step there with that cost
+pub step-at-earliest : (q : Query) (ss : List Step) (x : Cents) → Steps q ss
+    → (value ss (q .earliest) ≡ some x) ↔ ((rest : List Step) × (ss ≡ record { minute = q .earliest; price = x } ∷ rest))
+step-at-earliest q [] x h = (λ e. nothing-some x e, λ r. let z : _≡_ {A = ℕ} 0 1 = cc (r .1) in absurd (omega arith))
+step-at-earliest q (s ∷ ss) x h = (λ e. at e (ℕ-discrete (s .minute) (q .earliest)), λ r. back (r .0) (r .1))
+  where
+    at : value (s ∷ ss) (q .earliest) ≡ some x → Dec (s .minute ≡ q .earliest)
+        → (rest : List Step) × (s ∷ ss ≡ record { minute = q .earliest; price = x } ∷ rest)
+    at e (no n) = nothing-some x (sym (before-all q (s .minute) (s ∷ ss) (omega arith, h .1) (q .earliest) (omega (arith, h .0))) ∙ e)
+    at e (yes m) =
+        let here : some (s .price) ≡ some x = sym (at-first q s ss (h .1)) ∙ ap (λ t. value (s ∷ ss) t) m ∙ e in
+        let price : s .price ≡ x = cc in
+        (ss, λ i. record { minute = m i; price = price i } ∷ ss)
+
+    back : (rest : List Step) → s ∷ ss ≡ record { minute = q .earliest; price = x } ∷ rest → value (s ∷ ss) (q .earliest) ≡ some x
+    back rest e =
+        let step : s ≡ record { minute = q .earliest; price = x } = cc in
+        ap (λ t. value (s ∷ ss) t) (sym (ap (λ (z : Step). z .minute) step)) ∙ at-first q s ss (h .1)
+        ∙ ap (λ (z : Step). some (z .price)) step
 
 else-once : (v v′ : Option Cents) (x : Cents) → Below v x → Below v′ x → orElse v (some x) ≡ orElse v′ (some x) → v ≡ v′
 else-once none none x h h′ e = refl

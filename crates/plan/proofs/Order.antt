@@ -56,8 +56,17 @@ back-trans : (N : Network) (x y z : List Ride) → Back-upto N x y → Back-upto
 back-trans N [] y z h k = tt
 back-trans N (r ∷ rs) [] z h k = absurd h
 back-trans N (r ∷ rs) (s ∷ ss) [] h k = absurd k
-back-trans N (r ∷ rs) (s ∷ ss) (t ∷ ts) h k =
-    less-then-trans _ _ _ (less-then-trans _ _ _ (back-trans N rs ss ts)) h k
+back-trans N (r ∷ rs) (s ∷ ss) (t ∷ ts) h k = at h k (back-trans N rs ss ts)
+  where
+    at : Back-upto N (r ∷ rs) (s ∷ ss) → Back-upto N (s ∷ ss) (t ∷ ts) → (Back-upto N rs ss → Back-upto N ss ts → Back-upto N rs ts)
+        → Back-upto N (r ∷ rs) (t ∷ ts)
+    at (inl l) (inl m) f = inl (omega arith)
+    at (inl l) (inr (g, y)) f = inl (omega arith)
+    at (inr (e, x)) (inl m) f = inl (omega arith)
+    at (inr (e, inl l)) (inr (g, inl m)) f = inr (omega arith, inl (omega arith))
+    at (inr (e, inl l)) (inr (g, inr (j, y))) f = inr (omega arith, inl (omega arith))
+    at (inr (e, inr (i, x))) (inr (g, inl m)) f = inr (omega arith, inl (omega arith))
+    at (inr (e, inr (i, x))) (inr (g, inr (j, y))) f = inr (omega arith, inr (omega arith, f x y))
 
 pub back-refl : (N : Network) (x : List Ride) → Back-upto N x x
 back-refl N [] = tt

@@ -1,4 +1,4 @@
--- Standing at a place by a minute: how plans come to stand, by starting, waiting and riding. Assumes nothing.
+-- Standing at a place by a minute: how plans come to stand there, by riding, waiting and starting. Assumes nothing.
 use Prim.Native.Nat.{ℕ, _+_, _≤_, _<_}
 use native.Mathlib.Omega.{arith}
 use mathlib.Core.Path.{refl, sym}
@@ -8,14 +8,6 @@ use Rattle.plan.specs.Network.{Minute, Network, Query}
 use Rattle.plan.specs.Plan.{Ride, arrival, Runs, Stands}
 
 module _ (N : Network) (q : Query) where
-  -- the plan with no legs
-  pub stands-start : (t : Minute) → q .earliest ≤ t → Stands N q (q .start) t []
-  stands-start t h = record { runs = tt; there = refl; by = omega arith }
-
-  -- who stands there by t stands there by u
-  pub stands-wait : (p : ℕ) (t u : Minute) (plan : List Ride) → t ≤ u → Stands N q p t plan → Stands N q p u plan
-  stands-wait p t u plan h s = record { runs = s .runs; there = s .there; by = omega (arith, s .by) }
-
   -- who stands at a leg's place by d may leave at d
   pub stands-ride : (l : ℕ) (d : Minute) → l < N .legs → T (N .goes l d) → (plan : List Ride) → Stands N q (N .source l) d plan
       → Stands N q (N .target l) (d + N .time l) (record { leg = l; leave = d } ∷ plan)
@@ -24,6 +16,14 @@ module _ (N : Network) (q : Query) where
     there = refl;
     by = omega arith;
   }
+
+  -- the plan with no legs
+  pub stands-start : (t : Minute) → q .earliest ≤ t → Stands N q (q .start) t []
+  stands-start t h = record { runs = tt; there = refl; by = omega arith }
+
+  -- who stands there by t stands there by u
+  pub stands-wait : (p : ℕ) (t u : Minute) (plan : List Ride) → t ≤ u → Stands N q p t plan → Stands N q p u plan
+  stands-wait p t u plan h s = record { runs = s .runs; there = s .there; by = omega (arith, s .by) }
 
   -- a plan stands where it ends when it arrives
   pub stands-end : (p : ℕ) (t : Minute) (plan : List Ride) → Stands N q p t plan → Stands N q p (arrival N q plan) plan

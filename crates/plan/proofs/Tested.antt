@@ -3,7 +3,7 @@ use Prim.Native.Nat.{ℕ, zero, suc, _+_, _-_, _/_, _≤_, _<_}
 use native.Mathlib.Omega.{arith}
 use native.Mathlib.Nat.{add-zero}
 use mathlib.Core.Path.{_≡_, sym, ap, _∙_, subst}
-use mathlib.Core.Logic.{_⊎_, inl, inr, ⊎-elim}
+use mathlib.Core.Logic.{_≢_, _⊎_, inl, inr, ⊎-elim}
 use mathlib.Core.Bool.{Bool, not, _&&_, _||_}
 use mathlib.Core.List.{List, [], _∷_}
 use lib.Dec.{T, leb, ltb, eqb, leb→le, ltb→lt, le→leb, eqb→eq, T-not}
@@ -14,17 +14,17 @@ use Rattle.plan.specs.Table.{none, weight, MinuteTable}
 use Rattle.plan.proofs.Tests.{and-left, and-right, and-both, or-cases, unless-not, eq-eqb, not-eqb, everyFrom, every-at, anyBelow, any-at, at-any}
 use Rattle.plan.proofs.Cells.{Attained, attained-start, attained-wait, attained-ride}
 use Rattle.plan.proofs.Exact.{ObeysCells, AttainedCells, exact, table-obeys}
-use Rattle.plan.proofs.Walk.{Fits, Best, FirstAt, best-stop, best-wait, best-ride}
+use Rattle.plan.proofs.Walk.{Fits, Best, FirstAt, first-of-falling, best-stop, best-wait, best-ride}
 use Rattle.plan.proofs.Named.{best-named}
 
 module _ (N : Network) (q : Query) (c : ℕ → Minute → ℕ) where
   -- the leg l fits the cell of p at a, left for at the minute from which it arrives then
-  abbrev fits? : ℕ → Minute → ℕ → Bool
+  abbrev pub fits? : ℕ → Minute → ℕ → Bool
   fits? p a l =
       eqb (N .target l) p && (leb (q .earliest + N .time l) a
       && (N .goes l (a - N .time l) && eqb (c (N .source l) (a - N .time l) + weight N l (a - N .time l)) (c p a)))
 
-  test-fits : (p : ℕ) (a : Minute) (l : ℕ) → l < N .legs → T (fits? p a l) → Fits N q c p a l (a - N .time l)
+  pub test-fits : (p : ℕ) (a : Minute) (l : ℕ) → l < N .legs → T (fits? p a l) → Fits N q c p a l (a - N .time l)
   test-fits p a l known h =
       let rest = and-right (eqb (N .target l) p) _ h in
       let early = leb→le (q .earliest + N .time l) a (and-left (leb (q .earliest + N .time l) a) _ rest) in
@@ -38,7 +38,7 @@ module _ (N : Network) (q : Query) (c : ℕ → Minute → ℕ) where
         explains = eqb→eq _ _ (and-right (N .goes l (a - N .time l)) _ rest₂);
       }
 
-  fits-test : (p : ℕ) (a : Minute) (l : ℕ) (d : Minute) → Fits N q c p a l d → T (fits? p a l)
+  pub fits-test : (p : ℕ) (a : Minute) (l : ℕ) (d : Minute) → Fits N q c p a l d → T (fits? p a l)
   fits-test p a l d f =
       let e : a - N .time l ≡ d = omega (arith, f .arrives) in
       and-both (eqb (N .target l) p) _ (eq-eqb (N .target l) p (f .reaches))
@@ -216,17 +216,10 @@ module _ (N : Network) (q : Query) (c : ℕ → Minute → ℕ) where
       && best? (q .end) (arrival N q plan) plan)
 
   module _ (asked : Askable N q) (m : MinuteTable N q c) where
-    -- of falling cells the one just before tells
     test-first : (p : ℕ) (a : Minute) → p < N .places → a ≤ q .latest → T (first? p a) → FirstAt q c p a
-    test-first p a hp late h t early before e = at (or-cases (leb a (q .earliest)) _ h)
-      where
-        at : T (leb a (q .earliest)) ⊎ T (not (eqb (c p (a - 1)) (c p a))) → ⊥
-        at (inl b) = omega (arith, leb→le a (q .earliest) b)
-        at (inr b) =
-            let o = table-obeys N q asked c m in
-            let down = o .waits p t (a - 1) hp early (omega arith) (omega arith) in
-            let last = o .waits p (a - 1) a hp (omega arith) (omega arith) late in
-            not-eqb (c p (a - 1)) (c p a) b (omega arith)
+    test-first p a hp late h =
+        first-of-falling (q .earliest) (q .latest) (c p) (λ t u. table-obeys N q asked c m .waits p t u hp) a late
+        (⊎-elim (λ b. inl (leb→le a (q .earliest) b)) (λ b. inr (not-eqb (c p (a - 1)) (c p a) b)) (or-cases (leb a (q .earliest)) _ h))
 
     test-best : (plan : List Ride) (p : ℕ) (d : Minute) → p < N .places → q .earliest ≤ d → d ≤ q .latest → T (best? p d plan)
         → Best N q c p d plan
@@ -276,17 +269,18 @@ module _ (N : Network) (q : Query) (c : ℕ → Minute → ℕ) where
         let same = eqb→eq _ _ (and-left (eqb (c (q .end) (arrival N q plan) / 64) (c (q .end) (q .latest) / 64)) _ cheap) in
         let before = and-right (eqb (c (q .end) (arrival N q plan) / 64) (c (q .end) (q .latest) / 64)) _ cheap in
         best-named N q asked c m (arrival N q plan) early late same
-        (λ t low sooner e. at t low sooner late e (or-cases (leb (arrival N q plan) (q .earliest)) _ before))
+        (λ t low sooner e. sooner-dearer late (or-cases (leb (arrival N q plan) (q .earliest)) _ before) same t low sooner (e ∙ sym same))
         plan
         (test-best plan (q .end) (arrival N q plan) (asked .goal) early late best)
       where
-        at : (t : Minute) → q .earliest ≤ t → t < arrival N q plan → arrival N q plan ≤ q .latest
-            → c (q .end) t / 64 ≡ c (q .end) (q .latest) / 64
+        falls : (t u : Minute) → q .earliest ≤ t → t ≤ u → u ≤ q .latest → c (q .end) u / 64 ≤ c (q .end) t / 64
+        falls t u early h late = omega (arith, table-obeys N q asked c m .waits (q .end) t u (asked .goal) early h late)
+
+        sooner-dearer : arrival N q plan ≤ q .latest
             → T (leb (arrival N q plan) (q .earliest)) ⊎ T (not (eqb (c (q .end) (arrival N q plan - 1) / 64) (c (q .end) (q .latest) / 64)))
-            → ⊥
-        at t low sooner late e (inl b) = omega (arith, leb→le (arrival N q plan) (q .earliest) b)
-        at t low sooner late e (inr b) =
-            let o = table-obeys N q asked c m in
-            let down = o .waits (q .end) t (arrival N q plan - 1) (asked .goal) low (omega arith) (omega arith) in
-            let last = o .waits (q .end) (arrival N q plan - 1) (q .latest) (asked .goal) (omega arith) (omega arith) (omega arith) in
-            not-eqb (c (q .end) (arrival N q plan - 1) / 64) (c (q .end) (q .latest) / 64) b (omega arith)
+            → c (q .end) (arrival N q plan) / 64 ≡ c (q .end) (q .latest) / 64
+            → (t : Minute) → q .earliest ≤ t → t < arrival N q plan → c (q .end) t / 64 ≢ c (q .end) (arrival N q plan) / 64
+        sooner-dearer late h same =
+            first-of-falling (q .earliest) (q .latest) (λ t. c (q .end) t / 64) falls (arrival N q plan) late
+            (⊎-elim (λ b. inl (leb→le (arrival N q plan) (q .earliest) b))
+            (λ b. inr (λ e. not-eqb (c (q .end) (arrival N q plan - 1) / 64) (c (q .end) (q .latest) / 64) b (e ∙ same))) h)

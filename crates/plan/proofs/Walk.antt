@@ -3,11 +3,11 @@
 --   best-wait    from a departure to the earliest minute with the same whole cell
 --   best-ride    from that minute, an arrival, to the lowest leg that fits
 --   best-named   at the end, from the earliest minute with the least cost, it is the named plan
-use Prim.Native.Nat.{ℕ, _+_, _/_, _%_, _≤_, _<_}
+use Prim.Native.Nat.{ℕ, _+_, _-_, _/_, _%_, _≤_, _<_}
 use native.Mathlib.Omega.{arith}
 use native.Mathlib.Decide.{ℕ-discrete, decLt, decLe}
 use mathlib.Core.Path.{_≡_, sym, ap, _∙_, subst}
-use mathlib.Core.Logic.{_≢_, inl}
+use mathlib.Core.Logic.{_≢_, _⊎_, inl, inr}
 use mathlib.Core.List.{List, [], _∷_}
 use lib.Dec.{T}
 use lib.ListN.{length}
@@ -38,6 +38,14 @@ pub record Best (N : Network) (q : Query) (c : ℕ → Minute → ℕ) (p : ℕ)
 -- a is the first minute at which p has the cell that it has at a
 abbrev pub FirstAt : Query → (ℕ → Minute → ℕ) → ℕ → Minute → Type 0
 FirstAt q c p a = (t : Minute) → q .earliest ≤ t → t < a → c p t ≢ c p a
+
+-- of falling values the one just before tells which is the first of its kind
+pub first-of-falling : (low high : Minute) (f : Minute → ℕ) → ((t u : Minute) → low ≤ t → t ≤ u → u ≤ high → f u ≤ f t)
+    → (a : Minute) → a ≤ high → (a ≤ low) ⊎ (f (a - 1) ≢ f a)
+    → (t : Minute) → low ≤ t → t < a → f t ≢ f a
+first-of-falling low high f falls a late (inl h) t early before e = omega arith
+first-of-falling low high f falls a late (inr n) t early before e =
+    n (omega (arith, falls t (a - 1) early (omega arith) (omega arith), falls (a - 1) a (omega arith) (omega arith) late))
 
 -- a leg that fits, after a plan that stands where it leaves from
 fits-stands : (N : Network) (q : Query) (c : ℕ → Minute → ℕ) (p : ℕ) (a : Minute) (l : ℕ) (d : Minute) → Fits N q c p a l d
