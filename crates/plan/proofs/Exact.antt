@@ -9,20 +9,20 @@ use mathlib.Core.List.{List}
 use lib.Dec.{T}
 use Rattle.plan.specs.Network.{Minute, Network, Query, Askable}
 use Rattle.plan.specs.Plan.{Ride, total, Stands}
-use Rattle.plan.specs.Table.{none, weight, MinuteTable}
+use Rattle.plan.specs.Table.{noPlan, weight, MinuteTable}
 use Rattle.plan.proofs.Certificate.{Carries, certificate}
 use Rattle.plan.proofs.Cells.{Attained, attained-start, attained-wait, attained-ride, Least, light, least-cell, cell-least, least-largest}
 
--- The cells obey the rules: 0 at the start at earliest, no rise by waiting, and no cell above what a leg gives. (`none` plus anything is not below `none`.)
+-- The cells obey the rules: 0 at the start at earliest, no rise by waiting, and no cell above what a leg gives. (`noPlan` plus anything is not below `noPlan`.)
 pub record ObeysCells (N : Network) (q : Query) (c : ℕ → Minute → ℕ) : Type 0 where
   pub starts : c (q .start) (q .earliest) ≡ 0
   pub waits : (p : ℕ) (t u : Minute) → p < N .places → q .earliest ≤ t → t ≤ u → u ≤ q .latest → c p u ≤ c p t
   pub rides : (l : ℕ) (d : Minute) → l < N .legs → T (N .goes l d) → q .earliest ≤ d → d + N .time l ≤ q .latest
       → c (N .target l) (d + N .time l) ≤ c (N .source l) d + weight N l d
 
--- Every cell that is not `none` is the weight of a plan.
+-- Every cell that is not `noPlan` is the weight of a plan.
 abbrev pub AttainedCells : Network → Query → (ℕ → Minute → ℕ) → Type 0
-AttainedCells N q c = (p : ℕ) (t : Minute) → p < N .places → q .earliest ≤ t → t ≤ q .latest → c p t ≢ none → Attained N q p t (c p t)
+AttainedCells N q c = (p : ℕ) (t : Minute) → p < N .places → q .earliest ≤ t → t ≤ q .latest → c p t ≢ noPlan → Attained N q p t (c p t)
 
 module _ (N : Network) (q : Query) (asked : Askable N q) (c : ℕ → Minute → ℕ) where
   -- the certificate's H for cells
@@ -66,29 +66,29 @@ module _ (N : Network) (q : Query) (asked : Askable N q) (c : ℕ → Minute →
   unfolding Attained
   least-below m p t v hp early late (plan, s, e) = omega (arith, table-least m p t hp early late .bound plan s, e)
 
-  -- no value is above `none`
-  pub least-most : (p : ℕ) (t : Minute) (v : ℕ) → Least N q p t v → v ≤ none
-  least-most p t v k = at (ℕ-discrete v none)
+  -- no value is above `noPlan`
+  pub least-most : (p : ℕ) (t : Minute) (v : ℕ) → Least N q p t v → v ≤ noPlan
+  least-most p t v k = at (ℕ-discrete v noPlan)
     where
-      at : Dec (v ≡ none) → v ≤ none
+      at : Dec (v ≡ noPlan) → v ≤ noPlan
       at (yes e) = omega arith
       at (no ne) = omega (arith, least-largest N q asked p t v k ne)
 
   pub table-obeys : MinuteTable N q c → ObeysCells N q c
   table-obeys m = record {
     starts = omega (arith, least-below m (q .start) (q .earliest) 0 (asked .home) (omega arith) (asked .window) (attained-start N q (q .earliest) (omega arith)));
-    waits = λ p t u hp early h late. wait p t u hp early h late (ℕ-discrete (c p t) none);
-    rides = λ l d known goes early late. ride l d known goes early late (ℕ-discrete (c (N .source l) d) none);
+    waits = λ p t u hp early h late. wait p t u hp early h late (ℕ-discrete (c p t) noPlan);
+    rides = λ l d known goes early late. ride l d known goes early late (ℕ-discrete (c (N .source l) d) noPlan);
   }
     where
-      wait : (p : ℕ) (t u : Minute) → p < N .places → q .earliest ≤ t → t ≤ u → u ≤ q .latest → Dec (c p t ≡ none) → c p u ≤ c p t
+      wait : (p : ℕ) (t u : Minute) → p < N .places → q .earliest ≤ t → t ≤ u → u ≤ q .latest → Dec (c p t ≡ noPlan) → c p u ≤ c p t
       wait p t u hp early h late (yes e) = omega (arith, e, least-most p u (c p u) (table-least m p u hp (omega arith) late))
       wait p t u hp early h late (no ne) =
           least-below m p u (c p t) hp (omega arith) late
           (attained-wait N q p t u (c p t) h (table-attained m p t hp early (omega arith) ne))
 
       ride : (l : ℕ) (d : Minute) → l < N .legs → T (N .goes l d) → q .earliest ≤ d → d + N .time l ≤ q .latest
-          → Dec (c (N .source l) d ≡ none)
+          → Dec (c (N .source l) d ≡ noPlan)
           → c (N .target l) (d + N .time l) ≤ c (N .source l) d + weight N l d
       ride l d known goes early late (yes e) =
           omega (

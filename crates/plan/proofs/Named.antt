@@ -10,7 +10,7 @@ use lib.ListN.{length}
 use Rattle.plan.specs.Network.{Minute, Network, Query, Askable}
 use Rattle.plan.specs.Plan.{Ride, arrival, cost, Stands, Feasible}
 use Rattle.plan.specs.Tie.{Upto, Named}
-use Rattle.plan.specs.Table.{none, MinuteTable}
+use Rattle.plan.specs.Table.{noPlan, MinuteTable}
 use Rattle.plan.proofs.Standing.{from-earliest}
 use Rattle.plan.proofs.Cells.{total-weight, light}
 use Rattle.plan.proofs.Exact.{table-least, table-obeys}
@@ -25,8 +25,8 @@ module _ (N : Network) (q : Query) (asked : Askable N q) (c : ℕ → Minute →
       let (cut, k, sc, few, small) = light N q asked p t plan s in
       omega (arith, table-least N q asked c m p t hp early late .bound cut sc, few, total-weight N cut, k .lighter (N .toll))
 
-  -- no plan: the end's cell at latest is `none`
-  pub none-feasible : c (q .end) (q .latest) ≡ none → (plan : List Ride) → Feasible N q plan → ⊥
+  -- no plan: the end's cell at latest is `noPlan`
+  pub none-feasible : c (q .end) (q .latest) ≡ noPlan → (plan : List Ride) → Feasible N q plan → ⊥
   none-feasible e plan f = table-least N q asked c m (q .end) (q .latest) (asked .goal) (asked .window) (omega arith) .there plan f e
 
   -- THE WALK'S PLAN IS THE NAMED PLAN, where a is the earliest minute with the least cost

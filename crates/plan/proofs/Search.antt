@@ -11,7 +11,7 @@ use lib.ListN.{length}
 use Rattle.plan.specs.Network.{Minute, Network, Query, Askable}
 use Rattle.plan.specs.Plan.{Ride, place, arrival, total, Follows, Runs, Stands, Feasible}
 use Rattle.plan.specs.Tie.{Upto, Named}
-use Rattle.plan.specs.Table.{none, weight, Cell, MinuteTable}
+use Rattle.plan.specs.Table.{noPlan, weight, Cell, MinuteTable}
 use Rattle.plan.proofs.Circles.{NoWorse, no-worse-stands, cut-short}
 use Rattle.plan.proofs.Order.{upto-total, upto-trans, no-worse-upto}
 use Rattle.plan.proofs.Cells.{Attained, Least, light, least-cell}
@@ -216,7 +216,7 @@ module _ (N : Network) (q : Query) where
             )
         at (inr k) =
             let never : (plan : List Ride) → Stands N q p t plan → ⊥ = λ plan s. let (cut, m, sc, mem) = among plan s in k cut mem sc in (
-              none,
+              noPlan,
               record {
                 attained = λ ne. absurd (ne refl);
                 bound = λ plan s. absurd (never plan s);
@@ -226,7 +226,7 @@ module _ (N : Network) (q : Query) where
 
     leastAt : (p : ℕ) (t : Minute) → Dec (t ≤ q .latest) → ℕ
     leastAt p t (yes h) = least-exists p t h .0
-    leastAt p t (no n) = none
+    leastAt p t (no n) = noPlan
 
     -- A MINUTE TABLE EXISTS
     pub table-exists : (c : ℕ → Minute → ℕ) × MinuteTable N q c

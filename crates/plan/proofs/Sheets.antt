@@ -12,8 +12,7 @@ use lib.ListN.{length, getD, List·getD-eq-default}
 use Rattle.plan.specs.Network.{Minute, Cents, Network, Query, Askable}
 use Rattle.plan.specs.Plan.{Ride, cost, Stands, Feasible}
 use Rattle.plan.specs.Tie.{Named}
-use Rattle.plan.specs.Table.{MinuteTable}
-use Rattle.plan.specs.Table as table
+use Rattle.plan.specs.Table.{noPlan, MinuteTable}
 use Rattle.plan.specs.Sheet.{Step, orElse, value, valueAt, StepsAfter, Steps, AtMost, Obeys, TightFor, LeastCost, OurSheet}
 use Rattle.plan.proofs.Tests.{Is, eqb-is}
 use Rattle.plan.proofs.Standing.{stands-start, stands-ride}
@@ -148,18 +147,18 @@ module _ (N : Network) (q : Query) (asked : Askable N q)
 
 -- the cost that a cell shows
 abbrev pub costOf : ℕ → Option Cents
-costOf cell = cond (eqb cell table.none) none (some (cell / 64))
+costOf cell = cond (eqb cell noPlan) none (some (cell / 64))
 
 module _ (N : Network) (q : Query) (asked : Askable N q) (c : ℕ → Minute → ℕ) (m : MinuteTable N q c) where
   -- A CELL SHOWS THE LEAST COST
   pub cell-cost : (p : ℕ) (t : Minute) → p < N .places → q .earliest ≤ t → t ≤ q .latest → LeastCost N q p t (costOf (c p t))
   unfolding Attained
-  cell-cost p t hp early late = at (eqb (c p t) table.none) (eqb-is (c p t) table.none)
+  cell-cost p t hp early late = at (eqb (c p t) noPlan) (eqb-is (c p t) noPlan)
     where
       least : Least N q p t (c p t)
       least = table-least N q asked c m p t hp early late
 
-      at : (b : Bool) → Is b (c p t ≡ table.none) → LeastCost N q p t (cond b none (some (c p t / 64)))
+      at : (b : Bool) → Is b (c p t ≡ noPlan) → LeastCost N q p t (cond b none (some (c p t / 64)))
       at true e = λ plan s. least .there plan s e
       at false ne =
           let (plan, s, e) = least .attained ne in (

@@ -10,7 +10,7 @@ use lib.Dec.{T, leb, ltb, eqb, leb→le, ltb→lt, le→leb, eqb→eq, T-not}
 use Rattle.plan.specs.Network.{Minute, Network, Query, Askable}
 use Rattle.plan.specs.Plan.{Ride, arrives, arrival}
 use Rattle.plan.specs.Tie.{Named}
-use Rattle.plan.specs.Table.{none, weight, MinuteTable}
+use Rattle.plan.specs.Table.{noPlan, weight, MinuteTable}
 use Rattle.plan.proofs.Tests.{and-left, and-right, and-both, or-cases, unless-not, eq-eqb, not-eqb, everyFrom, every-at, anyBelow, any-at, at-any}
 use Rattle.plan.proofs.Cells.{Attained, attained-start, attained-wait, attained-ride}
 use Rattle.plan.proofs.Exact.{ObeysCells, AttainedCells, exact, table-obeys}
@@ -45,16 +45,16 @@ module _ (N : Network) (q : Query) (c : ℕ → Minute → ℕ) where
       (and-both (leb (q .earliest + N .time l) a) _ (le→leb (q .earliest + N .time l) a (omega (arith, f .arrives, f .early)))
       (rw e (and-both (N .goes l d) _ (f .goes) (eq-eqb _ _ (f .explains)))))
 
-  -- the cell of p at t is `none`, or 0 at the start, or the one before it, or a leg fits it
+  -- the cell of p at t is `noPlan`, or 0 at the start, or the one before it, or a leg fits it
   abbrev grounded? : ℕ → Minute → Bool
   grounded? p t =
-      eqb (c p t) none
+      eqb (c p t) noPlan
       || ((eqb p (q .start) && eqb (c p t) 0)
       || ((ltb (q .earliest) t && eqb (c p (t - 1)) (c p t)) || anyBelow (N .legs) (fits? p t)))
 
-  -- the cell is not above `none`, nor above the one before it
+  -- the cell is not above `noPlan`, nor above the one before it
   abbrev settled? : ℕ → Minute → Bool
-  settled? p t = leb (c p t) none && (leb t (q .earliest) || leb (c p t) (c p (t - 1)))
+  settled? p t = leb (c p t) noPlan && (leb t (q .earliest) || leb (c p t) (c p (t - 1)))
 
   -- the leg l left for at d gives nothing below its target's cell
   abbrev obeyed? : Minute → ℕ → Bool
@@ -89,17 +89,17 @@ module _ (N : Network) (q : Query) (c : ℕ → Minute → ℕ) where
     settled-at : (p : ℕ) (t : Minute) → p < N .places → q .earliest ≤ t → t ≤ q .latest → T (settled? p t)
     settled-at p t hp early late = and-right (grounded? p t) (settled? p t) (cell-at p t hp early late)
 
-    most-at : (p : ℕ) (t : Minute) → p < N .places → q .earliest ≤ t → t ≤ q .latest → c p t ≤ none
-    most-at p t hp early late = leb→le (c p t) none (and-left (leb (c p t) none) _ (settled-at p t hp early late))
+    most-at : (p : ℕ) (t : Minute) → p < N .places → q .earliest ≤ t → t ≤ q .latest → c p t ≤ noPlan
+    most-at p t hp early late = leb→le (c p t) noPlan (and-left (leb (c p t) noPlan) _ (settled-at p t hp early late))
 
     abbrev Ground : ℕ → Type 0
     Ground k =
-        (p : ℕ) (t : Minute) → p < N .places → q .earliest ≤ t → t ≤ q .latest → c p t + t < k → c p t < none → Attained N q p t (c p t)
+        (p : ℕ) (t : Minute) → p < N .places → q .earliest ≤ t → t ≤ q .latest → c p t + t < k → c p t < noPlan → Attained N q p t (c p t)
 
     -- one step down: waiting lowers the minute, and riding the cell
     ground-step : (k : ℕ) → Ground k → Ground (suc k)
     ground-step k ih p t hp early late fuel n =
-        at (or-cases (eqb (c p t) none) _ (and-left (grounded? p t) (settled? p t) (cell-at p t hp early late)))
+        at (or-cases (eqb (c p t) noPlan) _ (and-left (grounded? p t) (settled? p t) (cell-at p t hp early late)))
       where
         begun : T (eqb p (q .start) && eqb (c p t) 0) → Attained N q p t (c p t)
         begun b =
@@ -128,11 +128,11 @@ module _ (N : Network) (q : Query) (c : ℕ → Minute → ℕ) where
             (subst (λ (x : ℕ). Attained N q (N .target l) x (c (N .source l) (t - N .time l) + weight N l (t - N .time l))) (fit .arrives)
             after))
 
-        at : T (eqb (c p t) none)
+        at : T (eqb (c p t) noPlan)
             ⊎ T ((eqb p (q .start) && eqb (c p t) 0)
             || ((ltb (q .earliest) t && eqb (c p (t - 1)) (c p t)) || anyBelow (N .legs) (fits? p t)))
             → Attained N q p t (c p t)
-        at (inl e) = absurd (omega (arith, eqb→eq (c p t) none e))
+        at (inl e) = absurd (omega (arith, eqb→eq (c p t) noPlan e))
         at (inr o) =
             ⊎-elim begun
             (λ (o₂ : T ((ltb (q .earliest) t && eqb (c p (t - 1)) (c p t)) || anyBelow (N .legs) (fits? p t))).
@@ -164,7 +164,7 @@ module _ (N : Network) (q : Query) (c : ℕ → Minute → ℕ) where
         before = omega arith
 
         here : T (leb (t + suc n) (q .earliest) || leb (c p (t + suc n)) (c p (t + suc n - 1)))
-        here = and-right (leb (c p (t + suc n)) none) _ (settled-at p (t + suc n) hp (omega arith) late)
+        here = and-right (leb (c p (t + suc n)) noPlan) _ (settled-at p (t + suc n) hp (omega arith) late)
 
         step : T (leb (t + suc n) (q .earliest)) ⊎ T (leb (c p (t + suc n)) (c p (t + suc n - 1))) → c p (t + suc n) ≤ c p (t + suc n - 1)
         step (inl b) = absurd (omega (arith, leb→le (t + suc n) (q .earliest) b))

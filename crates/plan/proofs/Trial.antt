@@ -8,7 +8,7 @@ use lib.ListN.{getD}
 use Rattle.leg.specs.Toll.{either, tollOfFirst}
 use Rattle.plan.specs.Network.{Minute, Network, InRange, Query, Askable}
 use Rattle.plan.specs.Plan.{arrival, cost}
-use Rattle.plan.specs.Table.{none, MinuteTable}
+use Rattle.plan.specs.Table.{noPlan, MinuteTable}
 use Rattle.plan.specs.Sheet.{Step}
 use Rattle.plan.specs.Trial.{Says, ten, route, Row, Right, AllRight, legs, trial, rows}
 use Rattle.plan.proofs.Tests.{and-left, and-right, everyFrom, anyBelow}
@@ -24,7 +24,7 @@ from-step v (s ∷ ss) t = cond (leb (s .minute) t) (from-step (s .price) ss t) 
 
 -- the cells that a list of steps for each place gives
 abbrev pub cells : List (List Step) → ℕ → Minute → ℕ
-cells table p t = from-step none (getD table p []) t
+cells table p t = from-step noPlan (getD table p []) t
 
 abbrev fall : Minute → ℕ → Step
 fall t v = record { minute = t; price = v }
@@ -33,7 +33,7 @@ fall t v = record { minute = t; price = v }
 
 -- the row's table passes, its query is in range, and what it says passes against the table
 abbrev says? : (N : Network) → Query → (ℕ → Minute → ℕ) → Says → Bool
-says? N q c ten = eqb (c (q .end) (q .latest)) none
+says? N q c ten = eqb (c (q .end) (q .latest)) noPlan
 says? N q c (route x a plan) = named? N q c plan && (eqb (cost N plan) x && eqb (arrival N q plan) a)
 
 row? : Network → Query → (ℕ → Minute → ℕ) → Says → Bool
@@ -69,7 +69,7 @@ test-row N ok q c says h = at says said
     said = and-right (table? N q c) _ tested
 
     at : (s : Says) → T (says? N q c s) → Right N q s
-    at ten t = none-feasible N q asked c m (eqb→eq (c (q .end) (q .latest)) none t)
+    at ten t = none-feasible N q asked c m (eqb→eq (c (q .end) (q .latest)) noPlan t)
     at (route x a plan) t =
         let sums = and-right (named? N q c plan) _ t in (
           test-named N q c asked m plan (and-left (named? N q c plan) _ t),

@@ -14,7 +14,7 @@ use lib.ListN.{length}
 use Rattle.plan.specs.Network.{Minute, Network, Query, Askable}
 use Rattle.plan.specs.Plan.{Ride, arrives, total, cost, Stands}
 use Rattle.plan.specs.Tie.{Back-upto}
-use Rattle.plan.specs.Table.{none, weight, MinuteTable}
+use Rattle.plan.specs.Table.{noPlan, weight, MinuteTable}
 use Rattle.plan.proofs.Standing.{stands-start, stands-wait, stands-ride, stands-end, from-earliest, before-ride}
 use Rattle.plan.proofs.Cells.{Attained, total-weight, light}
 use Rattle.plan.proofs.Exact.{table-least, table-obeys, least-most}
@@ -158,7 +158,7 @@ module _ (N : Network) (q : Query) (asked : Askable N q) (c : ℕ → Minute →
           lower of (no n) = omega arith
 
   -- there is such a leg where the cell is not 0
-  pub some-fits : (p : ℕ) (a : Minute) → p < N .places → q .earliest ≤ a → a ≤ q .latest → FirstAt q c p a → c p a ≢ none → c p a ≢ 0
+  pub some-fits : (p : ℕ) (a : Minute) → p < N .places → q .earliest ≤ a → a ≤ q .latest → FirstAt q c p a → c p a ≢ noPlan → c p a ≢ 0
       → (l : ℕ) × (d : Minute) × Fits N q c p a l d
   unfolding Attained
   some-fits p a hp early late first n z = at (table-least N q asked c m p a hp early late .attained n)
@@ -167,14 +167,14 @@ module _ (N : Network) (q : Query) (asked : Askable N q) (c : ℕ → Minute →
       at ([], s, e) = absurd (z (sym e))
       at (r ∷ rs, s, e) = (r .leg, r .leave, last-fits p a hp late first r rs s e .0)
 
-  -- the leg count in the cell falls by one at each round, and no cell on the way is `none`
-  pub legs-fall : (p : ℕ) (a : Minute) → p < N .places → q .earliest ≤ a → a ≤ q .latest → c p a ≢ none
+  -- the leg count in the cell falls by one at each round, and no cell on the way is `noPlan`
+  pub legs-fall : (p : ℕ) (a : Minute) → p < N .places → q .earliest ≤ a → a ≤ q .latest → c p a ≢ noPlan
       → (l : ℕ) (d : Minute) → Fits N q c p a l d
-      → (c (N .source l) d ≢ none) × (c p a % 64 ≡ c (N .source l) d % 64 + 1)
+      → (c (N .source l) d ≢ noPlan) × (c p a % 64 ≡ c (N .source l) d % 64 + 1)
   unfolding Attained
   legs-fall p a hp early late n l d fit =
       let most = least-most N q asked c p a (c p a) (table-least N q asked c m p a hp early late) in
-      let some : c (N .source l) d ≢ none = omega (arith, most, n, fit .explains) in
+      let some : c (N .source l) d ≢ noPlan = omega (arith, most, n, fit .explains) in
       let (rest, s, e) =
       table-least N q asked c m (N .source l) d (asked .ranges .sources l (fit .known)) (fit .early) (omega (arith, fit .arrives))
       .attained some in
@@ -184,7 +184,7 @@ module _ (N : Network) (q : Query) (asked : Askable N q) (c : ℕ → Minute →
       (some, omega (arith, whole .0, whole .2, e, total-weight N rest))
 
   -- a cell that shows no legs is 0, and is the start's
-  pub no-legs : (p : ℕ) (t : Minute) → p < N .places → q .earliest ≤ t → t ≤ q .latest → c p t ≢ none → c p t % 64 ≡ 0
+  pub no-legs : (p : ℕ) (t : Minute) → p < N .places → q .earliest ≤ t → t ≤ q .latest → c p t ≢ noPlan → c p t % 64 ≡ 0
       → (p ≡ q .start) × (c p t ≡ 0)
   unfolding Attained
   no-legs p t hp early late n z = at (table-least N q asked c m p t hp early late .attained n)

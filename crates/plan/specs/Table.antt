@@ -9,8 +9,8 @@ use Rattle.plan.specs.Plan.{Ride, cost, Stands}
 use Rattle.plan.specs.Tie.{Less-then}
 
 -- What a cell holds where there is no plan.
-abbrev pub none : ℕ
-none = 4294967295
+abbrev pub noPlan : ℕ
+noPlan = 4294967295
 
 -- What a leg left for at a minute adds to a cell: 64 × toll, and one leg.
 abbrev pub weight : Network → ℕ → Minute → ℕ
@@ -21,11 +21,11 @@ pub record Cheapest (N : Network) (q : Query) (p : ℕ) (t : Minute) (plan : Lis
   pub stands : Stands N q p t plan
   pub least : (other : List Ride) → Stands N q p t other → Less-then (cost N plan) (cost N other) (length plan ≤ length other)
 
--- What the cell of p and t holds: 64 × cost + legs of that plan, or `none` if there is no plan.
+-- What the cell of p and t holds: 64 × cost + legs of that plan, or `noPlan` if there is no plan.
 abbrev pub Cell : Network → Query → ℕ → Minute → ℕ → Type 0
 Cell N q p t v =
     ((plan : List Ride) × Cheapest N q p t plan × (v ≡ 64 * cost N plan + length plan))
-    ⊎ (((plan : List Ride) → Stands N q p t plan → ⊥) × (v ≡ none))
+    ⊎ (((plan : List Ride) → Stands N q p t plan → ⊥) × (v ≡ noPlan))
 
 -- The number of minutes from earliest to latest, both counted.
 abbrev pub width : Query → ℕ
