@@ -7,7 +7,7 @@ use mathlib.Core.Path.{_≡_}
 use mathlib.Core.Logic.{_≢_}
 use mathlib.Core.List.{List}
 use lib.Dec.{T}
-use Rattle.plan.specs.Network.{Minute, Network, Query, Askable}
+use Rattle.plan.specs.Network.{Minute, Network, Query, Askable, Within}
 use Rattle.plan.specs.Plan.{Ride, total, Stands}
 use Rattle.plan.specs.Table.{noPlan, weight, MinuteTable}
 use Rattle.plan.proofs.Certificate.{Carries, certificate}
@@ -22,7 +22,7 @@ pub record ObeysCells (N : Network) (q : Query) (c : ℕ → Minute → ℕ) : T
 
 -- Every cell that is not `noPlan` is the weight of a plan.
 abbrev pub AttainedCells : Network → Query → (ℕ → Minute → ℕ) → Type 0
-AttainedCells N q c = (p : ℕ) (t : Minute) → p < N .places → q .earliest ≤ t → t ≤ q .latest → c p t ≢ noPlan → Attained N q p t (c p t)
+AttainedCells N q c = (p : ℕ) (t : Minute) → Within N q p t → c p t ≢ noPlan → Attained N q p t (c p t)
 
 module _ (N : Network) (q : Query) (asked : Askable N q) (c : ℕ → Minute → ℕ) where
   -- the certificate's H for cells
@@ -39,32 +39,32 @@ module _ (N : Network) (q : Query) (asked : Askable N q) (c : ℕ → Minute →
       → c p t ≤ total (weight N) plan
   cells-bound o plan p t s h = certificate N q (weight N) (λ p t x. (p < N .places) × (c p t ≤ x)) (cells-carry o) plan p t s h .1
 
-  pub cells-least : AttainedCells N q c → ObeysCells N q c → (p : ℕ) (t : Minute) → p < N .places → q .earliest ≤ t → t ≤ q .latest
+  pub cells-least : AttainedCells N q c → ObeysCells N q c → (p : ℕ) (t : Minute) → Within N q p t
       → Least N q p t (c p t)
-  cells-least a o p t hp early late = record {
-    attained = a p t hp early late;
-    bound = λ plan s. cells-bound o plan p t s late;
+  cells-least a o p t win = record {
+    attained = a p t win;
+    bound = λ plan s. cells-bound o plan p t s (win .late);
     there = λ plan s.
         let (k, m, sk, few, small) = light N q asked p t plan s in
-        omega (arith, small, cells-bound o k p t sk late);
+        omega (arith, small, cells-bound o k p t sk (win .late));
   }
 
   -- THE TABLE'S LAW
   pub exact : AttainedCells N q c → ObeysCells N q c → MinuteTable N q c
-  exact a o p t hp early late = least-cell N q asked p t (c p t) (cells-least a o p t hp early late)
+  exact a o p t win = least-cell N q asked p t (c p t) (cells-least a o p t win)
 
   -- what a minute table gives back
-  pub table-least : MinuteTable N q c → (p : ℕ) (t : Minute) → p < N .places → q .earliest ≤ t → t ≤ q .latest → Least N q p t (c p t)
-  table-least m p t hp early late = cell-least N q asked p t (c p t) (m p t hp early late)
+  pub table-least : MinuteTable N q c → (p : ℕ) (t : Minute) → Within N q p t → Least N q p t (c p t)
+  table-least m p t win = cell-least N q asked p t (c p t) (m p t win)
 
   pub table-attained : MinuteTable N q c → AttainedCells N q c
-  table-attained m p t hp early late = table-least m p t hp early late .attained
+  table-attained m p t win = table-least m p t win .attained
 
   -- THE LEAST VALUES OBEY THE RULES
-  least-below : MinuteTable N q c → (p : ℕ) (t : Minute) (v : ℕ) → p < N .places → q .earliest ≤ t → t ≤ q .latest
+  least-below : MinuteTable N q c → (p : ℕ) (t : Minute) (v : ℕ) → Within N q p t
       → Attained N q p t v → c p t ≤ v
   unfolding Attained
-  least-below m p t v hp early late (plan, s, e) = omega (arith, table-least m p t hp early late .bound plan s, e)
+  least-below m p t v win (plan, s, e) = omega (arith, table-least m p t win .bound plan s, e)
 
   -- no value is above `noPlan`
   pub least-most : (p : ℕ) (t : Minute) (v : ℕ) → Least N q p t v → v ≤ noPlan
@@ -76,16 +76,16 @@ module _ (N : Network) (q : Query) (asked : Askable N q) (c : ℕ → Minute →
 
   pub table-obeys : MinuteTable N q c → ObeysCells N q c
   table-obeys m = record {
-    starts = omega (arith, least-below m (q .start) (q .earliest) 0 (asked .home) (omega arith) (asked .window) (attained-start N q (q .earliest) (omega arith)));
+    starts = omega (arith, least-below m (q .start) (q .earliest) 0 (record { place = asked .home; early = omega arith; late = asked .window }) (attained-start N q (q .earliest) (omega arith)));
     waits = λ p t u hp early h late. wait p t u hp early h late (ℕ-discrete (c p t) noPlan);
     rides = λ l d known goes early late. ride l d known goes early late (ℕ-discrete (c (N .source l) d) noPlan);
   }
     where
       wait : (p : ℕ) (t u : Minute) → p < N .places → q .earliest ≤ t → t ≤ u → u ≤ q .latest → Dec (c p t ≡ noPlan) → c p u ≤ c p t
-      wait p t u hp early h late (yes e) = omega (arith, e, least-most p u (c p u) (table-least m p u hp (omega arith) late))
+      wait p t u hp early h late (yes e) = omega (arith, e, least-most p u (c p u) (table-least m p u (record { place = hp; early = omega arith; late = late })))
       wait p t u hp early h late (no ne) =
-          least-below m p u (c p t) hp (omega arith) late
-          (attained-wait N q p t u (c p t) h (table-attained m p t hp early (omega arith) ne))
+          least-below m p u (c p t) (record { place = hp; early = omega arith; late = late })
+          (attained-wait N q p t u (c p t) h (table-attained m p t (record { place = hp; early = early; late = omega arith }) ne))
 
       ride : (l : ℕ) (d : Minute) → l < N .legs → T (N .goes l d) → q .earliest ≤ d → d + N .time l ≤ q .latest
           → Dec (c (N .source l) d ≡ noPlan)
@@ -95,9 +95,9 @@ module _ (N : Network) (q : Query) (asked : Askable N q) (c : ℕ → Minute →
             arith,
             e,
             least-most (N .target l) (d + N .time l) (c (N .target l) (d + N .time l))
-                (table-least m (N .target l) (d + N .time l) (asked .ranges .targets l known) (omega arith) late),
+                (table-least m (N .target l) (d + N .time l) (record { place = asked .ranges .targets l known; early = omega arith; late = late })),
           )
       ride l d known goes early late (no ne) =
-          least-below m (N .target l) (d + N .time l) (c (N .source l) d + weight N l d) (asked .ranges .targets l known) (omega arith) late
+          least-below m (N .target l) (d + N .time l) (c (N .source l) d + weight N l d) (record { place = asked .ranges .targets l known; early = omega arith; late = late })
           (attained-ride N q l d (c (N .source l) d) known goes
-          (table-attained m (N .source l) d (asked .ranges .sources l known) early (omega arith) ne))
+          (table-attained m (N .source l) d (record { place = asked .ranges .sources l known; early = early; late = omega arith }) ne))

@@ -7,11 +7,11 @@ use mathlib.Core.Path.{_≡_}
 use mathlib.Core.Logic.{_≢_}
 use mathlib.Core.List.{List}
 use lib.ListN.{length}
-use Rattle.plan.specs.Network.{Minute, Network, Query, Askable}
+use Rattle.plan.specs.Network.{Minute, Network, Query, Askable, Within}
 use Rattle.plan.specs.Plan.{Ride, arrival, cost, Stands, Feasible}
 use Rattle.plan.specs.Tie.{Upto, Named}
 use Rattle.plan.specs.Table.{noPlan, MinuteTable}
-use Rattle.plan.proofs.Standing.{from-earliest}
+use Rattle.plan.proofs.Standing.{stands-wait, stands-end, from-earliest}
 use Rattle.plan.proofs.Cells.{total-weight, light}
 use Rattle.plan.proofs.Exact.{table-least, table-obeys}
 use Rattle.plan.proofs.Order.{less-then}
@@ -19,39 +19,39 @@ use Rattle.plan.proofs.Walk.{Best, shown}
 
 module _ (N : Network) (q : Query) (asked : Askable N q) (c : ℕ → Minute → ℕ) (m : MinuteTable N q c) where
   -- the cost in a cell is at most that of any plan that stands there
-  pub cost-shown : (p : ℕ) (t : Minute) → p < N .places → q .earliest ≤ t → t ≤ q .latest → (plan : List Ride) → Stands N q p t plan
+  pub cost-shown : (p : ℕ) (t : Minute) → Within N q p t → (plan : List Ride) → Stands N q p t plan
       → c p t / 64 ≤ cost N plan
-  cost-shown p t hp early late plan s =
+  cost-shown p t win plan s =
       let (cut, k, sc, few, small) = light N q asked p t plan s in
-      omega (arith, table-least N q asked c m p t hp early late .bound cut sc, few, total-weight N cut, k .lighter (N .toll))
+      omega (arith, table-least N q asked c m p t win .bound cut sc, few, total-weight N cut, k .lighter (N .toll))
 
   -- no plan: the end's cell at latest is `noPlan`
   pub none-feasible : c (q .end) (q .latest) ≡ noPlan → (plan : List Ride) → Feasible N q plan → ⊥
-  none-feasible e plan f = table-least N q asked c m (q .end) (q .latest) (asked .goal) (asked .window) (omega arith) .there plan f e
+  none-feasible e plan f = table-least N q asked c m (q .end) (q .latest) (record { place = asked .goal; early = asked .window; late = omega arith }) .there plan f e
 
   -- THE WALK'S PLAN IS THE NAMED PLAN, where a is the earliest minute with the least cost
-  pub best-named : (a : Minute) → q .earliest ≤ a → a ≤ q .latest
+  pub best-named : (a : Minute) → Within N q (q .end) a
       → c (q .end) a / 64 ≡ c (q .end) (q .latest) / 64
       → ((t : Minute) → q .earliest ≤ t → t < a → c (q .end) t / 64 ≢ c (q .end) (q .latest) / 64)
       → (plan : List Ride) → Best N q c (q .end) a plan
       → Named N q plan
-  best-named a early late same first plan b = record {
-    feasible = record { runs = b .stands .runs; there = b .stands .there; by = omega (arith, b .stands .by) };
+  best-named a win same first plan b = record {
+    feasible = stands-wait N q (q .end) a (q .latest) plan (win .late) (b .stands);
     first = at;
   }
     where
       whole : (length plan < 64) × (c (q .end) a / 64 ≡ cost N plan) × (c (q .end) a % 64 ≡ length plan)
-      whole = shown N q asked c m (q .end) a (asked .goal) early late plan (b .stands) (b .weighs)
+      whole = shown N q asked c m (q .end) a win plan (b .stands) (b .weighs)
 
       at : (other : List Ride) → Feasible N q other → Upto N q plan other
       at other f =
           less-then (cost N plan) (cost N other)
-          (omega (arith, whole .1, cost-shown (q .end) (q .latest) (asked .goal) (asked .window) (omega arith) other f)) λ dear.
+          (omega (arith, whole .1, cost-shown (q .end) (q .latest) (record { place = asked .goal; early = asked .window; late = omega arith }) other f)) λ dear.
           let soon : a ≤ arrival N q other = not-before dear (decLe a (arrival N q other)) in
           less-then (arrival N q plan) (arrival N q other) (omega (arith, b .stands .by)) λ when.
           let stands : Stands N q (q .end) a other =
           record { runs = f .runs; there = f .there; by = omega (arith, b .stands .by) } in
-          let bound = table-least N q asked c m (q .end) a (asked .goal) early late .bound other stands in
+          let bound = table-least N q asked c m (q .end) a win .bound other stands in
           less-then (length plan) (length other)
           (omega (arith, bound, b .weighs, total-weight N plan, total-weight N other)) λ legs.
           b .first other stands (omega (arith, b .weighs, total-weight N plan, total-weight N other))
@@ -62,6 +62,6 @@ module _ (N : Network) (q : Query) (asked : Askable N q) (c : ℕ → Minute →
           not-before dear (no n) =
               let start : q .earliest ≤ arrival N q other = from-earliest N q other (f .runs) in
               let wait = table-obeys N q asked c m .waits (q .end) (arrival N q other) (q .latest) (asked .goal) start (f .by) (omega arith) in
-              let less = cost-shown (q .end) (arrival N q other) (asked .goal) start (f .by) other
-              (record { runs = f .runs; there = f .there; by = omega arith }) in
+              let less = cost-shown (q .end) (arrival N q other) (record { place = asked .goal; early = start; late = f .by }) other
+              (stands-end N q (q .end) (q .latest) other f) in
               absurd (first (arrival N q other) start (omega arith) (omega (arith, less, wait, whole .1)))

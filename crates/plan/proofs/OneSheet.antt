@@ -11,7 +11,7 @@ use borrow.Author.Tests.{le-leb, lt-leb}
 use lib.Dec.{leb}
 use lib.ListN.{getD}
 use lib.Seq.{ext-getD}
-use Rattle.plan.specs.Network.{Minute, Cents, Network, Query}
+use Rattle.plan.specs.Network.{Minute, Cents, Network, Query, Within}
 use Rattle.plan.specs.Sheet.{Step, orElse, value, valueAt, StepsAfter, Steps, LeastCost, OurSheet}
 use Rattle.plan.proofs.Sheets.{Below, after-below}
 
@@ -136,4 +136,4 @@ our-sheet-once N q x y hx hy =
     (λ p l.
     let hp : p < N .places = omega (arith, hx .size) in
     once q (q .earliest) (getD x p []) (getD y p []) (steps-from q (getD x p []) (hx .steps p hp)) (steps-from q (getD y p []) (hy .steps p hp))
-    (λ t early late. least-once N q p t (valueAt x p t) (valueAt y p t) (hx .costs p t hp early late) (hy .costs p t hp early late)))
+    (λ t early late. least-once N q p t (valueAt x p t) (valueAt y p t) (hx .costs p t (record { place = hp; early = early; late = late })) (hy .costs p t (record { place = hp; early = early; late = late }))))

@@ -8,7 +8,7 @@ use mathlib.Core.Bool.{Bool, true, false}
 use mathlib.Core.List.{List, [], _∷_, _++_, map, List·Memᴰ, List·Memᴰ·head, List·Memᴰ·tail, List·Memᴰ·cases-cons, List·Memᴰ·not-nil, Memᴰ·append-left, Memᴰ·append-right, Memᴰ·map}
 use lib.Dec.{T}
 use lib.ListN.{length}
-use Rattle.plan.specs.Network.{Minute, Network, Query, Askable}
+use Rattle.plan.specs.Network.{Minute, Network, Query, Askable, Within}
 use Rattle.plan.specs.Plan.{Ride, place, arrival, total, Follows, Runs, Stands, Feasible}
 use Rattle.plan.specs.Tie.{Upto, Named}
 use Rattle.plan.specs.Table.{noPlan, weight, Cell, MinuteTable}
@@ -231,7 +231,7 @@ module _ (N : Network) (q : Query) where
     -- A MINUTE TABLE EXISTS
     pub table-exists : (c : ℕ → Minute → ℕ) × MinuteTable N q c
     unfolding leastAt
-    table-exists = (λ p t. leastAt p t (decLe t (q .latest)), λ p t hp early late. at p t (decLe t (q .latest)) late)
+    table-exists = (λ p t. leastAt p t (decLe t (q .latest)), λ p t win. at p t (decLe t (q .latest)) (win .late))
       where
         at : (p : ℕ) (t : Minute) (d : Dec (t ≤ q .latest)) → t ≤ q .latest → Cell N q p t (leastAt p t d)
         at p t (yes h) late = least-cell N q asked p t (least-exists p t h .0) (least-exists p t h .1)

@@ -9,7 +9,7 @@ use mathlib.Core.Option.{Option, none, some}
 use mathlib.Core.List.{List, [], _∷_}
 use lib.Dec.{T, leb, eqb, leb→le, le→leb}
 use lib.ListN.{length, getD, List·getD-eq-default}
-use Rattle.plan.specs.Network.{Minute, Cents, Network, Query, Askable}
+use Rattle.plan.specs.Network.{Minute, Cents, Network, Query, Askable, Within}
 use Rattle.plan.specs.Plan.{Ride, cost, Stands, Feasible}
 use Rattle.plan.specs.Tie.{Named}
 use Rattle.plan.specs.Table.{noPlan, MinuteTable}
@@ -105,19 +105,19 @@ zero-at-most (some v) h = let z : v ≡ 0 = omega arith in ap some z
 
 module _ (N : Network) (q : Query) (asked : Askable N q)
     (v : ℕ → Minute → Option Cents)
-    (costs : (p : ℕ) (t : Minute) → p < N .places → q .earliest ≤ t → t ≤ q .latest → LeastCost N q p t (v p t)) where
+    (costs : (p : ℕ) (t : Minute) → Within N q p t → LeastCost N q p t (v p t)) where
   -- THE LEAST COSTS OBEY THE RULES
   pub least-obeys : Obeys N q v
   least-obeys = record {
     a = zero-at-most (v (q .start) (q .earliest))
-        (least-none N q (q .start) (q .earliest) (v (q .start) (q .earliest)) (costs (q .start) (q .earliest) (asked .home) (omega arith) (asked .window)) []
+        (least-none N q (q .start) (q .earliest) (v (q .start) (q .earliest)) (costs (q .start) (q .earliest) (record { place = asked .home; early = omega arith; late = asked .window })) []
         (stands-start N q (q .earliest) (omega arith)));
     b = λ l d x known goes early late e.
-        let paid = subst (λ (o : Option Cents). LeastCost N q (N .source l) d o) e (costs (N .source l) d (asked .ranges .sources l known) early (omega arith)) in
+        let paid = subst (λ (o : Option Cents). LeastCost N q (N .source l) d o) e (costs (N .source l) d (record { place = asked .ranges .sources l known; early = early; late = omega arith })) in
         let (plan, s, same) = paid .0 in
         let arrive =
         least-none N q (N .target l) (d + N .time l) (v (N .target l) (d + N .time l))
-        (costs (N .target l) (d + N .time l) (asked .ranges .targets l known) (omega arith) late)
+        (costs (N .target l) (d + N .time l) (record { place = asked .ranges .targets l known; early = omega arith; late = late }))
         (record { leg = l; leave = d } ∷ plan)
         (stands-ride N q l d known goes plan s) in
         subst (λ (y : Cents). AtMost (v (N .target l) (d + N .time l)) (y + N .toll l d)) same arrive;
@@ -127,7 +127,7 @@ module _ (N : Network) (q : Query) (asked : Askable N q)
   pub least-tight : (plan : List Ride) → Feasible N q plan
       → ((other : List Ride) → Feasible N q other → cost N plan ≤ cost N other)
       → TightFor q v (some (cost N plan))
-  least-tight plan f least = at (v (q .end) (q .latest)) (costs (q .end) (q .latest) (asked .goal) (asked .window) (omega arith))
+  least-tight plan f least = at (v (q .end) (q .latest)) (costs (q .end) (q .latest) (record { place = asked .goal; early = asked .window; late = omega arith }))
     where
       at : (o : Option Cents) → LeastCost N q (q .end) (q .latest) o → o ≡ some (cost N plan)
       at none h = absurd (h plan f)
@@ -137,7 +137,7 @@ module _ (N : Network) (q : Query) (asked : Askable N q)
           ap some e
 
   pub none-tight : ((plan : List Ride) → Feasible N q plan → ⊥) → TightFor q v none
-  none-tight never = at (v (q .end) (q .latest)) (costs (q .end) (q .latest) (asked .goal) (asked .window) (omega arith))
+  none-tight never = at (v (q .end) (q .latest)) (costs (q .end) (q .latest) (record { place = asked .goal; early = asked .window; late = omega arith }))
     where
       at : (o : Option Cents) → LeastCost N q (q .end) (q .latest) o → o ≡ none
       at none h = refl
@@ -151,19 +151,19 @@ costOf cell = cond (eqb cell noPlan) none (some (cell / 64))
 
 module _ (N : Network) (q : Query) (asked : Askable N q) (c : ℕ → Minute → ℕ) (m : MinuteTable N q c) where
   -- A CELL SHOWS THE LEAST COST
-  pub cell-cost : (p : ℕ) (t : Minute) → p < N .places → q .earliest ≤ t → t ≤ q .latest → LeastCost N q p t (costOf (c p t))
+  pub cell-cost : (p : ℕ) (t : Minute) → Within N q p t → LeastCost N q p t (costOf (c p t))
   unfolding Attained
-  cell-cost p t hp early late = at (eqb (c p t) noPlan) (eqb-is (c p t) noPlan)
+  cell-cost p t win = at (eqb (c p t) noPlan) (eqb-is (c p t) noPlan)
     where
       least : Least N q p t (c p t)
-      least = table-least N q asked c m p t hp early late
+      least = table-least N q asked c m p t win
 
       at : (b : Bool) → Is b (c p t ≡ noPlan) → LeastCost N q p t (cond b none (some (c p t / 64)))
       at true e = λ plan s. least .there plan s e
       at false ne =
           let (plan, s, e) = least .attained ne in (
-            (plan, s, sym (shown N q asked c m p t hp early late plan s e .1)),
-            λ other so. cost-shown N q asked c m p t hp early late other so,
+            (plan, s, sym (shown N q asked c m p t win plan s e .1)),
+            λ other so. cost-shown N q asked c m p t win other so,
           )
 
 -- ---- our sheet

@@ -7,7 +7,7 @@ use mathlib.Core.Logic.{_≢_, _⊎_, inl, inr, ⊎-elim}
 use mathlib.Core.Bool.{Bool, not, _&&_, _||_}
 use mathlib.Core.List.{List, [], _∷_}
 use lib.Dec.{T, leb, ltb, eqb, leb→le, ltb→lt, le→leb, eqb→eq, T-not}
-use Rattle.plan.specs.Network.{Minute, Network, Query, Askable}
+use Rattle.plan.specs.Network.{Minute, Network, Query, Askable, Within}
 use Rattle.plan.specs.Plan.{Ride, arrives, arrival}
 use Rattle.plan.specs.Tie.{Named}
 use Rattle.plan.specs.Table.{noPlan, weight, MinuteTable}
@@ -79,34 +79,34 @@ module _ (N : Network) (q : Query) (c : ℕ → Minute → ℕ) where
         (and-right (eqb (c (q .start) (q .earliest)) 0) (everyFrom (q .latest + 1 - q .earliest) (q .earliest) column?) h)
         t early (omega arith)
 
-    cell-at : (p : ℕ) (t : Minute) → p < N .places → q .earliest ≤ t → t ≤ q .latest → T (grounded? p t && settled? p t)
-    cell-at p t hp early late =
+    cell-at : (p : ℕ) (t : Minute) → Within N q p t → T (grounded? p t && settled? p t)
+    cell-at p t win =
         every-at (N .places) 0 (λ p. grounded? p t && settled? p t)
         (and-left (everyFrom (N .places) 0 (λ p. grounded? p t && settled? p t)) (everyFrom (N .legs) 0 (λ l. obeyed? t l))
-        (column-at t early late))
+        (column-at t (win .early) (win .late)))
         p (omega arith) (omega arith)
 
-    settled-at : (p : ℕ) (t : Minute) → p < N .places → q .earliest ≤ t → t ≤ q .latest → T (settled? p t)
-    settled-at p t hp early late = and-right (grounded? p t) (settled? p t) (cell-at p t hp early late)
+    settled-at : (p : ℕ) (t : Minute) → Within N q p t → T (settled? p t)
+    settled-at p t win = and-right (grounded? p t) (settled? p t) (cell-at p t win)
 
-    most-at : (p : ℕ) (t : Minute) → p < N .places → q .earliest ≤ t → t ≤ q .latest → c p t ≤ noPlan
-    most-at p t hp early late = leb→le (c p t) noPlan (and-left (leb (c p t) noPlan) _ (settled-at p t hp early late))
+    most-at : (p : ℕ) (t : Minute) → Within N q p t → c p t ≤ noPlan
+    most-at p t win = leb→le (c p t) noPlan (and-left (leb (c p t) noPlan) _ (settled-at p t win))
 
     abbrev Ground : ℕ → Type 0
     Ground k =
-        (p : ℕ) (t : Minute) → p < N .places → q .earliest ≤ t → t ≤ q .latest → c p t + t < k → c p t < noPlan → Attained N q p t (c p t)
+        (p : ℕ) (t : Minute) → Within N q p t → c p t + t < k → c p t < noPlan → Attained N q p t (c p t)
 
     -- one step down: waiting lowers the minute, and riding the cell
     ground-step : (k : ℕ) → Ground k → Ground (suc k)
-    ground-step k ih p t hp early late fuel n =
-        at (or-cases (eqb (c p t) noPlan) _ (and-left (grounded? p t) (settled? p t) (cell-at p t hp early late)))
+    ground-step k ih p t win fuel n =
+        at (or-cases (eqb (c p t) noPlan) _ (and-left (grounded? p t) (settled? p t) (cell-at p t win)))
       where
         begun : T (eqb p (q .start) && eqb (c p t) 0) → Attained N q p t (c p t)
         begun b =
             let here = eqb→eq p (q .start) (and-left (eqb p (q .start)) _ b) in
             let free = eqb→eq (c p t) 0 (and-right (eqb p (q .start)) _ b) in
             subst (λ (x : ℕ). Attained N q x t (c p t)) (sym here)
-            (subst (λ (v : ℕ). Attained N q (q .start) t v) (sym free) (attained-start N q t early))
+            (subst (λ (v : ℕ). Attained N q (q .start) t v) (sym free) (attained-start N q t (win .early)))
 
         waited : T (ltb (q .earliest) t && eqb (c p (t - 1)) (c p t)) → Attained N q p t (c p t)
         waited w =
@@ -114,13 +114,13 @@ module _ (N : Network) (q : Query) (c : ℕ → Minute → ℕ) where
             let same = eqb→eq (c p (t - 1)) (c p t) (and-right (ltb (q .earliest) t) _ w) in
             attained-wait N q p (t - 1) t (c p t) (omega arith)
             (subst (λ (v : ℕ). Attained N q p (t - 1) v) same
-            (ih p (t - 1) hp (omega arith) (omega arith) (omega arith) (omega arith)))
+            (ih p (t - 1) (record { place = win .place; early = omega arith; late = omega arith }) (omega arith) (omega arith)))
 
         ridden : (l : ℕ) → l < N .legs → T (fits? p t l) → Attained N q p t (c p t)
         ridden l known f =
             let fit = test-fits p t l known f in
             let before =
-            ih (N .source l) (t - N .time l) (asked .ranges .sources l known) (fit .early) (omega arith) (omega (arith, fit .explains))
+            ih (N .source l) (t - N .time l) (record { place = asked .ranges .sources l known; early = fit .early; late = omega arith }) (omega (arith, fit .explains))
             (omega (arith, fit .explains)) in
             let after = attained-ride N q l (t - N .time l) (c (N .source l) (t - N .time l)) known (fit .goes) before in
             subst (λ (v : ℕ). Attained N q p t v) (fit .explains)
@@ -142,12 +142,12 @@ module _ (N : Network) (q : Query) (c : ℕ → Minute → ℕ) where
             (or-cases (eqb p (q .start) && eqb (c p t) 0) _ o)
 
     ground : (k : ℕ) → Ground k
-    ground zero = λ p t hp early late fuel n. absurd (omega arith)
+    ground zero = λ p t win fuel n. absurd (omega arith)
     ground (suc k) = ground-step k (ground k)
 
     test-attained : AttainedCells N q c
-    test-attained p t hp early late n =
-        ground (suc (c p t + t)) p t hp early late (omega arith) (omega (arith, most-at p t hp early late))
+    test-attained p t win n =
+        ground (suc (c p t + t)) p t win (omega arith) (omega (arith, most-at p t win))
 
     -- no rise, minute by minute
     test-waits : (n : ℕ) (p : ℕ) (t : Minute) → p < N .places → q .earliest ≤ t → t + n ≤ q .latest → c p (t + n) ≤ c p t
@@ -164,7 +164,7 @@ module _ (N : Network) (q : Query) (c : ℕ → Minute → ℕ) where
         before = omega arith
 
         here : T (leb (t + suc n) (q .earliest) || leb (c p (t + suc n)) (c p (t + suc n - 1)))
-        here = and-right (leb (c p (t + suc n)) noPlan) _ (settled-at p (t + suc n) hp (omega arith) late)
+        here = and-right (leb (c p (t + suc n)) noPlan) _ (settled-at p (t + suc n) (record { place = hp; early = omega arith; late = late }))
 
         step : T (leb (t + suc n) (q .earliest)) ⊎ T (leb (c p (t + suc n)) (c p (t + suc n - 1))) → c p (t + suc n) ≤ c p (t + suc n - 1)
         step (inl b) = absurd (omega (arith, leb→le (t + suc n) (q .earliest) b))
@@ -221,15 +221,15 @@ module _ (N : Network) (q : Query) (c : ℕ → Minute → ℕ) where
         first-of-falling (q .earliest) (q .latest) (c p) (λ t u. table-obeys N q asked c m .waits p t u hp) a late
         (⊎-elim (λ b. inl (leb→le a (q .earliest) b)) (λ b. inr (not-eqb (c p (a - 1)) (c p a) b)) (or-cases (leb a (q .earliest)) _ h))
 
-    test-best : (plan : List Ride) (p : ℕ) (d : Minute) → p < N .places → q .earliest ≤ d → d ≤ q .latest → T (best? p d plan)
+    test-best : (plan : List Ride) (p : ℕ) (d : Minute) → Within N q p d → T (best? p d plan)
         → Best N q c p d plan
     unfolding best?
-    test-best [] p d hp early late h =
+    test-best [] p d win h =
         let here = eqb→eq p (q .start) (and-left (eqb p (q .start)) _ h) in
         let free = eqb→eq (c p d) 0 (and-right (eqb p (q .start)) _ h) in
         subst (λ (x : ℕ). Best N q c x d []) (sym here)
-        (best-stop N q c d early (ap (λ (x : ℕ). c x d) (sym here) ∙ free))
-    test-best (r ∷ rs) p d hp early late h =
+        (best-stop N q c d (win .early) (ap (λ (x : ℕ). c x d) (sym here) ∙ free))
+    test-best (r ∷ rs) p d win h =
         let settled = and-left (leb (arrives N r) d && eqb (c p (arrives N r)) (c p d)) _ h in
         let rest = and-right (leb (arrives N r) d && eqb (c p (arrives N r)) (c p d)) _ h in
         let ridden = and-left (first? p (arrives N r)
@@ -238,7 +238,7 @@ module _ (N : Network) (q : Query) (c : ℕ → Minute → ℕ) where
         && ((ltb (r .leg) (N .legs) && fits? p (arrives N r) (r .leg)) && not (anyBelow (r .leg) (fits? p (arrives N r))))) _ rest in
         let soon = leb→le (arrives N r) d (and-left (leb (arrives N r) d) _ settled) in
         let same = eqb→eq (c p (arrives N r)) (c p d) (and-right (leb (arrives N r) d) _ settled) in
-        let first = test-first p (arrives N r) hp (omega arith) (and-left (first? p (arrives N r)) _ ridden) in
+        let first = test-first p (arrives N r) (win .place) (omega arith) (and-left (first? p (arrives N r)) _ ridden) in
         let leg = and-right (first? p (arrives N r)) _ ridden in
         let this = and-left (ltb (r .leg) (N .legs) && fits? p (arrives N r) (r .leg)) _ leg in
         let known = ltb→lt (r .leg) (N .legs) (and-left (ltb (r .leg) (N .legs)) _ this) in
@@ -246,13 +246,13 @@ module _ (N : Network) (q : Query) (c : ℕ → Minute → ℕ) where
         let fit : Fits N q c p (arrives N r) (r .leg) (r .leave) =
         rw when at (test-fits p (arrives N r) (r .leg) known (and-right (ltb (r .leg) (N .legs)) _ this)) in
         best-wait N q c p (arrives N r) d (r ∷ rs) soon same
-        (best-ride N q asked c m p (arrives N r) hp (omega arith) first (r .leg) (r .leave) fit
+        (best-ride N q asked c m p (arrives N r) (record { place = win .place; early = omega (arith, fit .early); late = omega (arith, win .late) }) first (r .leg) (r .leave) fit
         (λ l′ d′ low f′.
         T-not (anyBelow (r .leg) (fits? p (arrives N r)))
         (and-right (ltb (r .leg) (N .legs) && fits? p (arrives N r) (r .leg)) _ leg)
         (at-any (r .leg) (fits? p (arrives N r)) l′ low (fits-test p (arrives N r) l′ d′ f′)))
         rs
-        (test-best rs (N .source (r .leg)) (r .leave) (asked .ranges .sources (r .leg) known) (fit .early) (omega arith) before))
+        (test-best rs (N .source (r .leg)) (r .leave) (record { place = asked .ranges .sources (r .leg) known; early = fit .early; late = omega arith }) before))
 
     -- A PLAN THAT PASSES is the named plan
     pub test-named : (plan : List Ride) → T (named? plan) → Named N q plan
@@ -268,10 +268,10 @@ module _ (N : Network) (q : Query) (c : ℕ → Minute → ℕ) where
         let late = leb→le (arrival N q plan) (q .latest) (and-right (leb (q .earliest) (arrival N q plan)) _ inside) in
         let same = eqb→eq _ _ (and-left (eqb (c (q .end) (arrival N q plan) / 64) (c (q .end) (q .latest) / 64)) _ cheap) in
         let before = and-right (eqb (c (q .end) (arrival N q plan) / 64) (c (q .end) (q .latest) / 64)) _ cheap in
-        best-named N q asked c m (arrival N q plan) early late same
+        best-named N q asked c m (arrival N q plan) (record { place = asked .goal; early = early; late = late }) same
         (λ t low sooner e. sooner-dearer late (or-cases (leb (arrival N q plan) (q .earliest)) _ before) same t low sooner (e ∙ sym same))
         plan
-        (test-best plan (q .end) (arrival N q plan) (asked .goal) early late best)
+        (test-best plan (q .end) (arrival N q plan) (record { place = asked .goal; early = early; late = late }) best)
       where
         falls : (t u : Minute) → q .earliest ≤ t → t ≤ u → u ≤ q .latest → c (q .end) u / 64 ≤ c (q .end) t / 64
         falls t u early h late = omega (arith, table-obeys N q asked c m .waits (q .end) t u (asked .goal) early h late)

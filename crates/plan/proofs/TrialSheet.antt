@@ -8,7 +8,7 @@ use mathlib.Core.List.{List, [], _∷_}
 use lib.Dec.{T, leb, ltb, eqb, leb→le, ltb→lt, eqb→eq, lit<, lit≤}
 use lib.ListN.{length, getD}
 use Rattle.leg.specs.Toll.{either, tollOfFirst}
-use Rattle.plan.specs.Network.{Minute, Cents, Network, Query, Askable}
+use Rattle.plan.specs.Network.{Minute, Cents, Network, Query, Askable, Within}
 use Rattle.plan.specs.Table.{MinuteTable}
 use Rattle.plan.specs.Sheet.{Step, valueAt, StepsAfter, Steps, LeastCost, OurSheet}
 use Rattle.plan.specs.Trial.{trial, sheetQuery, sheet}
@@ -74,12 +74,12 @@ unfolding sheet? place?
 test-sheet N q asked c m sheet h = record {
   size = eqb→eq (length sheet) (N .places) (and-left (eqb (length sheet) (N .places)) _ h);
   steps = λ p hp. test-steps q (getD sheet p []) (and-left (steps? q (getD sheet p [])) _ (at p hp));
-  costs = λ p t hp early late.
+  costs = λ p t win.
       subst (λ (v : Option Cents). LeastCost N q p t v)
       (test-same (costOf (c p t)) (valueAt sheet p t)
-      (every-at (q .latest + 1) 0 (λ t. same? (costOf (c p t)) (valueAt sheet p t)) (and-right (steps? q (getD sheet p [])) _ (at p hp)) t
+      (every-at (q .latest + 1) 0 (λ t. same? (costOf (c p t)) (valueAt sheet p t)) (and-right (steps? q (getD sheet p [])) _ (at p (win .place))) t
       (omega arith) (omega arith)))
-      (cell-cost N q asked c m p t hp early late);
+      (cell-cost N q asked c m p t win);
 }
   where
     at : (p : ℕ) → p < N .places → T (place? q c sheet p)

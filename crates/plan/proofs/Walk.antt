@@ -11,7 +11,7 @@ use mathlib.Core.Logic.{_≢_, _⊎_, inl, inr}
 use mathlib.Core.List.{List, [], _∷_}
 use lib.Dec.{T}
 use lib.ListN.{length}
-use Rattle.plan.specs.Network.{Minute, Network, Query, Askable}
+use Rattle.plan.specs.Network.{Minute, Network, Query, Askable, Within}
 use Rattle.plan.specs.Plan.{Ride, arrives, total, cost, Stands}
 use Rattle.plan.specs.Tie.{Back-upto}
 use Rattle.plan.specs.Table.{noPlan, weight, MinuteTable}
@@ -83,32 +83,31 @@ module _ (N : Network) (q : Query) (c : ℕ → Minute → ℕ) where
 
 module _ (N : Network) (q : Query) (asked : Askable N q) (c : ℕ → Minute → ℕ) (m : MinuteTable N q c) where
   -- a plan that weighs what the cell says has at most 63 legs, so the cell shows its cost and its legs
-  pub shown : (p : ℕ) (t : Minute) → p < N .places → q .earliest ≤ t → t ≤ q .latest → (plan : List Ride) → Stands N q p t plan
+  pub shown : (p : ℕ) (t : Minute) → Within N q p t → (plan : List Ride) → Stands N q p t plan
       → total (weight N) plan ≡ c p t
       → (length plan < 64) × (c p t / 64 ≡ cost N plan) × (c p t % 64 ≡ length plan)
-  shown p t hp early late plan s e =
+  shown p t win plan s e =
       let (cut, k, sc, few, small) = light N q asked p t plan s in
-      let bound = table-least N q asked c m p t hp early late .bound cut sc in
+      let bound = table-least N q asked c m p t win .bound cut sc in
       let short : length plan < 64 =
       omega (arith, bound, e, few, total-weight N cut, total-weight N plan, k .lighter (N .toll)) in
       (short, omega (arith, e, total-weight N plan), omega (arith, e, total-weight N plan))
 
   -- where the cell first appears, the last ride of a plan that weighs what it says arrives just then and fits
-  last-fits : (p : ℕ) (a : Minute) → p < N .places → a ≤ q .latest → FirstAt q c p a
+  last-fits : (p : ℕ) (a : Minute) → Within N q p a → FirstAt q c p a
       → (r : Ride) (rs : List Ride) → Stands N q p a (r ∷ rs) → total (weight N) (r ∷ rs) ≡ c p a
       → Fits N q c p a (r .leg) (r .leave) × (total (weight N) rs ≡ c (N .source (r .leg)) (r .leave))
-  last-fits p a hp late first r rs s e =
+  last-fits p a win first r rs s e =
       let obeys = table-obeys N q asked c m in
       let follows = s .runs .0 in
       let early : q .earliest ≤ r .leave = omega (arith, from-earliest N q rs (s .runs .1), follows .after) in
       let in-time : arrives N r ≤ a = omega (arith, s .by) in
       let bound =
-      table-least N q asked c m p (arrives N r) hp (omega arith) (omega arith) .bound (r ∷ rs) (stands-end N q p a (r ∷ rs) s) in
-      let wait = obeys .waits p (arrives N r) a hp (omega arith) in-time late in
+      table-least N q asked c m p (arrives N r) (record { place = win .place; early = omega arith; late = omega (arith, win .late) }) .bound (r ∷ rs) (stands-end N q p a (r ∷ rs) s) in
+      let wait = obeys .waits p (arrives N r) a (win .place) (omega arith) in-time (win .late) in
       let punctual : arrives N r ≡ a = at (ℕ-discrete (arrives N r) a) (omega arith) (omega (arith, bound, e, wait)) in-time in
       let before =
-      table-least N q asked c m (N .source (r .leg)) (r .leave) (asked .ranges .sources (r .leg) (follows .known)) early
-      (omega arith) .bound rs (before-ride N q r rs (s .runs)) in
+      table-least N q asked c m (N .source (r .leg)) (r .leave) (record { place = asked .ranges .sources (r .leg) (follows .known); early = early; late = omega arith }) .bound rs (before-ride N q r rs (s .runs)) in
       let ride = obeys .rides (r .leg) (r .leave) (follows .known) (follows .goes) early (omega arith) in
       let there : c (N .target (r .leg)) (arrives N r) ≡ c p a = ap (λ (x : ℕ). c x (arrives N r)) (s .there) ∙ ap (c p) punctual in (
         record {
@@ -127,11 +126,11 @@ module _ (N : Network) (q : Query) (asked : Askable N q) (c : ℕ → Minute →
       at (no n) h w l = absurd (first (arrives N r) h (omega arith) w)
 
   -- RIDE: the lowest leg that fits where the cell first appears, after what is best at its departure
-  pub best-ride : (p : ℕ) (a : Minute) → p < N .places → a ≤ q .latest → FirstAt q c p a
+  pub best-ride : (p : ℕ) (a : Minute) → Within N q p a → FirstAt q c p a
       → (l : ℕ) (d : Minute) → Fits N q c p a l d → ((l′ : ℕ) (d′ : Minute) → l′ < l → Fits N q c p a l′ d′ → ⊥)
       → (rest : List Ride) → Best N q c (N .source l) d rest
       → Best N q c p a (record { leg = l; leave = d } ∷ rest)
-  best-ride p a hp late first l d fit lowest rest b = record {
+  best-ride p a win first l d fit lowest rest b = record {
     stands = fits-stands N q c p a l d fit rest (b .stands);
     weighs = omega (arith, b .weighs, fit .explains);
     first = at;
@@ -141,7 +140,7 @@ module _ (N : Network) (q : Query) (asked : Askable N q) (c : ℕ → Minute →
           → Back-upto N (record { leg = l; leave = d } ∷ rest) other
       at [] s e = absurd (omega (arith, fit .explains, e))
       at (o ∷ os) s e =
-          let (of, before) = last-fits p a hp late first o os s e in
+          let (of, before) = last-fits p a win first o os s e in
           let low = lower of (decLt (o .leg) l) in
           less-then _ _ (omega (arith, fit .arrives, of .arrives)) λ same.
           less-then _ _ (omega (arith, low)) λ equal.
@@ -158,37 +157,37 @@ module _ (N : Network) (q : Query) (asked : Askable N q) (c : ℕ → Minute →
           lower of (no n) = omega arith
 
   -- there is such a leg where the cell is not 0
-  pub some-fits : (p : ℕ) (a : Minute) → p < N .places → q .earliest ≤ a → a ≤ q .latest → FirstAt q c p a → c p a ≢ noPlan → c p a ≢ 0
+  pub some-fits : (p : ℕ) (a : Minute) → Within N q p a → FirstAt q c p a → c p a ≢ noPlan → c p a ≢ 0
       → (l : ℕ) × (d : Minute) × Fits N q c p a l d
   unfolding Attained
-  some-fits p a hp early late first n z = at (table-least N q asked c m p a hp early late .attained n)
+  some-fits p a win first n z = at (table-least N q asked c m p a win .attained n)
     where
       at : (plan : List Ride) × Stands N q p a plan × (total (weight N) plan ≡ c p a) → (l : ℕ) × (d : Minute) × Fits N q c p a l d
       at ([], s, e) = absurd (z (sym e))
-      at (r ∷ rs, s, e) = (r .leg, r .leave, last-fits p a hp late first r rs s e .0)
+      at (r ∷ rs, s, e) = (r .leg, r .leave, last-fits p a win first r rs s e .0)
 
   -- the leg count in the cell falls by one at each round, and no cell on the way is `noPlan`
-  pub legs-fall : (p : ℕ) (a : Minute) → p < N .places → q .earliest ≤ a → a ≤ q .latest → c p a ≢ noPlan
+  pub legs-fall : (p : ℕ) (a : Minute) → Within N q p a → c p a ≢ noPlan
       → (l : ℕ) (d : Minute) → Fits N q c p a l d
       → (c (N .source l) d ≢ noPlan) × (c p a % 64 ≡ c (N .source l) d % 64 + 1)
   unfolding Attained
-  legs-fall p a hp early late n l d fit =
-      let most = least-most N q asked c p a (c p a) (table-least N q asked c m p a hp early late) in
+  legs-fall p a win n l d fit =
+      let most = least-most N q asked c p a (c p a) (table-least N q asked c m p a win) in
       let some : c (N .source l) d ≢ noPlan = omega (arith, most, n, fit .explains) in
       let (rest, s, e) =
-      table-least N q asked c m (N .source l) d (asked .ranges .sources l (fit .known)) (fit .early) (omega (arith, fit .arrives))
+      table-least N q asked c m (N .source l) d (record { place = asked .ranges .sources l (fit .known); early = fit .early; late = omega (arith, fit .arrives) })
       .attained some in
       let whole =
-      shown p a hp early late (record { leg = l; leave = d } ∷ rest) (fits-stands N q c p a l d fit rest s)
+      shown p a win (record { leg = l; leave = d } ∷ rest) (fits-stands N q c p a l d fit rest s)
       (omega (arith, e, fit .explains)) in
       (some, omega (arith, whole .0, whole .2, e, total-weight N rest))
 
   -- a cell that shows no legs is 0, and is the start's
-  pub no-legs : (p : ℕ) (t : Minute) → p < N .places → q .earliest ≤ t → t ≤ q .latest → c p t ≢ noPlan → c p t % 64 ≡ 0
+  pub no-legs : (p : ℕ) (t : Minute) → Within N q p t → c p t ≢ noPlan → c p t % 64 ≡ 0
       → (p ≡ q .start) × (c p t ≡ 0)
   unfolding Attained
-  no-legs p t hp early late n z = at (table-least N q asked c m p t hp early late .attained n)
+  no-legs p t win n z = at (table-least N q asked c m p t win .attained n)
     where
       at : (plan : List Ride) × Stands N q p t plan × (total (weight N) plan ≡ c p t) → (p ≡ q .start) × (c p t ≡ 0)
       at ([], s, e) = (sym (s .there), sym e)
-      at (r ∷ rs, s, e) = absurd (omega (arith, shown p t hp early late (r ∷ rs) s e .2, z))
+      at (r ∷ rs, s, e) = absurd (omega (arith, shown p t win (r ∷ rs) s e .2, z))

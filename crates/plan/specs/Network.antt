@@ -40,3 +40,9 @@ pub record Askable (N : Network) (q : Query) : Type 0 where
   pub home : q .start < N .places
   pub goal : q .end < N .places
   pub window : q .earliest ≤ q .latest
+
+-- A place of the network and a minute of the window.
+pub record Within (N : Network) (q : Query) (p : ℕ) (t : Minute) : Type 0 where
+  pub place : p < N .places
+  pub early : q .earliest ≤ t
+  pub late : t ≤ q .latest

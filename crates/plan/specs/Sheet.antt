@@ -6,7 +6,7 @@ use mathlib.Core.Option.{Option, none, some}
 use mathlib.Core.List.{List, [], _∷_}
 use lib.Dec.{T, leb}
 use lib.ListN.{length, getD}
-use Rattle.plan.specs.Network.{Minute, Cents, Network, Query}
+use Rattle.plan.specs.Network.{Minute, Cents, Network, Query, Within}
 use Rattle.plan.specs.Plan.{Ride, cost, Stands}
 
 -- One step of a sheet: from this minute on the place has this cost.
@@ -65,4 +65,4 @@ LeastCost N q p t (some x) =
 pub record OurSheet (N : Network) (q : Query) (sheet : List (List Step)) : Type 0 where
   pub size : length sheet ≡ N .places
   pub steps : (p : ℕ) → p < N .places → Steps q (getD sheet p [])
-  pub costs : (p : ℕ) (t : Minute) → p < N .places → q .earliest ≤ t → t ≤ q .latest → LeastCost N q p t (valueAt sheet p t)
+  pub costs : (p : ℕ) (t : Minute) → Within N q p t → LeastCost N q p t (valueAt sheet p t)

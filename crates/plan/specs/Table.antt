@@ -4,7 +4,7 @@ use mathlib.Core.Path.{_≡_}
 use mathlib.Core.Logic.{_⊎_}
 use mathlib.Core.List.{List}
 use lib.ListN.{length, getD}
-use Rattle.plan.specs.Network.{Minute, Network, Query}
+use Rattle.plan.specs.Network.{Minute, Network, Query, Within}
 use Rattle.plan.specs.Plan.{Ride, cost, Stands}
 use Rattle.plan.specs.Tie.{Less-then}
 
@@ -37,4 +37,4 @@ cellAt q cells p t = getD cells (p * width q + (t - q .earliest)) 0
 
 -- The minute table: every cell of the window holds what it should.
 abbrev pub MinuteTable : Network → Query → (ℕ → Minute → ℕ) → Type 0
-MinuteTable N q c = (p : ℕ) (t : Minute) → p < N .places → q .earliest ≤ t → t ≤ q .latest → Cell N q p t (c p t)
+MinuteTable N q c = (p : ℕ) (t : Minute) → Within N q p t → Cell N q p t (c p t)
