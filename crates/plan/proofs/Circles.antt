@@ -175,7 +175,7 @@ module _ (N : Network) (q : Query) where
     shorter = ⊎-elim (λ e. inl (ap (λ (l : List Ride). r ∷ l) e)) (λ (f : length cut < length rs). inr (omega arith)) (k .shorter);
   }
 
-  not-longer : (rs cut : List Ride) → NoWorse N q rs cut → length cut ≤ length rs
+  pub not-longer : (rs cut : List Ride) → NoWorse N q rs cut → length cut ≤ length rs
   not-longer rs cut k = ⊎-elim (λ e. omega (arith, ap length e)) (λ (f : length cut < length rs). omega arith) (k .shorter)
 
   -- it stands wherever the plan does

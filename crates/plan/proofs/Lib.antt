@@ -4,6 +4,7 @@ pub mod Values
 pub mod Circles
 pub mod Cells
 pub mod Exact
+pub mod Lowering
 pub mod Order
 pub mod Search
 pub mod Walk

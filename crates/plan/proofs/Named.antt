@@ -45,14 +45,14 @@ module _ (N : Network) (q : Query) (asked : Askable N q) (c : ℕ → Minute →
 
       at : (other : List Ride) → Feasible N q other → Upto N q plan other
       at other f =
-          less-then (cost N plan) (cost N other)
+          less-then _ _
           (omega (arith, whole .1, cost-shown (q .end) (q .latest) (record { place = asked .goal; early = asked .window; late = omega arith }) other f)) λ dear.
           let soon : a ≤ arrival N q other = not-before dear (decLe a (arrival N q other)) in
-          less-then (arrival N q plan) (arrival N q other) (omega (arith, b .stands .by)) λ when.
+          less-then _ _ (omega (arith, b .stands .by)) λ when.
           let stands : Stands N q (q .end) a other =
           record { runs = f .runs; there = f .there; by = omega (arith, b .stands .by) } in
           let bound = table-least N q asked c m (q .end) a win .bound other stands in
-          less-then (length plan) (length other)
+          less-then _ _
           (omega (arith, bound, b .weighs, total-weight N plan, total-weight N other)) λ legs.
           b .first other stands (omega (arith, b .weighs, total-weight N plan, total-weight N other))
         where

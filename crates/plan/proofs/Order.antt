@@ -9,7 +9,7 @@ use lib.ListN.{length}
 use Rattle.plan.specs.Network.{Network, Query, Askable}
 use Rattle.plan.specs.Plan.{Ride, arrives, arrival, cost}
 use Rattle.plan.specs.Tie.{Less-then, Back-upto, Upto, Named}
-use Rattle.plan.proofs.Circles.{NoWorse, no-worse-stands, cut-short}
+use Rattle.plan.proofs.Circles.{NoWorse, not-longer, no-worse-stands, cut-short}
 
 -- ---- one number and then the rest
 
@@ -109,11 +109,13 @@ module _ (N : Network) (q : Query) where
   -- a plan that is no worse does not come after
   pub no-worse-upto : (plan cut : List Ride) → NoWorse N q plan cut → Upto N q cut plan
   no-worse-upto plan cut k =
-      less-then (cost N cut) (cost N plan) (k .lighter (N .toll)) λ _.
-      less-then (arrival N q cut) (arrival N q plan) (k .by) λ _.
+      let fewer = not-longer N q plan cut k in
+      less-then _ _ (k .lighter (N .toll)) λ _.
+      less-then _ _ (omega (arith, k .by, fewer)) λ _.
+      less-then _ _ (omega (arith, k .by, fewer)) λ legs.
       ⊎-elim
-      (λ (e : cut ≡ plan). inr (ap length e, subst (λ (x : List Ride). Back-upto N cut x) e (back-refl N cut)))
-      (λ (l : length cut < length plan). inl l)
+      (λ (e : cut ≡ plan). subst (λ (x : List Ride). Back-upto N cut x) e (back-refl N cut))
+      (λ (l : length cut < length plan). absurd (omega arith))
       (k .shorter)
 
   -- THE NAMED PLAN IS SHORT: fewer legs than the network has places
