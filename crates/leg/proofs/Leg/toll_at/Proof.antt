@@ -1,10 +1,9 @@
 -- The loop has the toll of the bands it passed.
 use borrow.Author.Needs.{needs}
-use Prim.Native.Nat.{ℕ, _+_, _-_, _*_, _≤_, _<_}
+use Prim.Native.Nat.{_-_, _≤_}
 use native.Mathlib.Omega.{arith}
-use mathlib.Core.Path.{_≡_, refl, sym, ap, _∙_}
+use mathlib.Core.Path.{_≡_, refl, _∙_}
 use mathlib.Core.Logic.{⊎-elim}
-use lib.ListN.{length, getD, set, length-set}
 use Rattle.leg.specs.Toll.{tollOfFirst}
 use Rattle.leg.proofs.Laws.{toll-begun, toll-later}
 use Rattle.leg.proofs.Leg.toll_at.Statement.{statement}
