@@ -1,0 +1,1 @@
+// What a network file or a list of numbers stands for.
