@@ -1,1 +1,3 @@
 pub mod Bands
+pub mod Inversion
+pub mod Heads

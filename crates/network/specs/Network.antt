@@ -10,6 +10,7 @@ use Rattle.leg.specs.declared.Band.{Band}
 use Rattle.leg.specs.declared.Leg.{Leg}
 use Rattle.leg.specs.Ranges.{lastMinute, mostCents, minute, bandOf, noBands}
 use Rattle.source.specs.Source.{both, fileOf, listOf}
+use Rattle.network.specs.declared.Head.{Head}
 use Rattle.network.specs.Reading.{Found, Reading, _>>=_, _>>_, give, pick, field, check, end}
 
 -- what differs between editions: the width of the band count, and how many bands a leg may have
@@ -39,8 +40,9 @@ band least = do
   give (bandOf start toll)
 
 -- a leg that has no band yet, and a leg with one band more
-abbrev pub bare : Form → ℕ → ℕ → ℕ → Leg
-bare form from to time = record { from = from; to = to; time = minute time; bands = noBands (form .mostBands); count = 0 }
+abbrev pub bare : Form → Head → Leg
+bare form head =
+    record { from = head .from; to = head .to; time = head .time; bands = noBands (form .mostBands); count = 0 }
 
 abbrev pub withBand : Leg → Band → Leg
 withBand leg b =
@@ -53,9 +55,9 @@ bands (suc k) least leg = do
   b ← band least
   bands k (b .start .0 + 1) (withBand leg b)
 
--- one leg
-abbrev pub leg : Form → ℕ → Reading Leg
-leg form places = do
+-- the head of a leg
+abbrev pub head : Form → ℕ → Reading Head
+head form places = do
   from ← field 6
   check (ltb from places) Range
   to ← field 6
@@ -64,7 +66,13 @@ leg form places = do
   check (leb time lastMinute) Range
   count ← field (form .countWidth)
   check (both (leb 1 count) (leb count (form .mostBands))) Range
-  bands count 0 (bare form from to time)
+  give (record { from = from; to = to; time = minute time; count = count })
+
+-- one leg
+abbrev pub leg : Form → ℕ → Reading Leg
+leg form places = do
+  h ← head form places
+  bands (h .count) 0 (bare form h)
 
 -- so many legs more
 unfoldable pub legs : Form → ℕ → ℕ → List Leg → Reading (List Leg)

@@ -2,16 +2,30 @@
 ghost use mathlib.Core.Path.{_≡_};
 ghost use Prim.Native.Nat.{_≤_};
 ghost use Rattle.source.specs.Source.{sourceOf};
-ghost use Rattle.network.specs.Network.{edition1, follows, band, bands, leg};
-ghost use Rattle.network.specs.Answers.{bandFound, legFound, partOf};
+ghost use Rattle.network.specs.Reading.{refused};
+ghost use Rattle.network.specs.Network.{edition1, follows, band, bands, bare, head, leg, network};
+ghost use Rattle.network.specs.Answers.{bandFound, headFound, legFound, networkFound};
 use answer::Refusal;
 use leg::{Band, Cents, CentsFound, Leg, Minute, MinuteFound};
-use source::{Fields, Origin};
+use source::Origin;
 
 // A band and the place after it, or why there is none.
 pub enum BandFound {
     Refused(Refusal),
     Sound(Band, usize),
+}
+
+// The head of a leg: everything but its bands, and how many those are.
+pub struct Head {
+    pub from: u32,
+    pub to: u32,
+    pub time: Minute,
+    pub count: usize,
+}
+
+pub enum HeadFound {
+    Refused(Refusal),
+    Sound(Head, usize),
 }
 
 pub enum Verdict {
@@ -24,6 +38,18 @@ pub struct LegFound {
     pub verdict: Verdict,
     pub leg: Leg,
     pub after: usize,
+}
+
+// How large a network is: its places, its legs, and the bands of all legs together.
+pub struct Size {
+    pub places: u32,
+    pub legs: usize,
+    pub bands: usize,
+}
+
+pub enum NetworkFound {
+    Refused(Refusal),
+    Sound(Size),
 }
 
 // The first band starts at 0, a later one above the one before.
@@ -58,4 +84,100 @@ pub fn band_from(origin: Origin, net: &[u8], list: &[u32], at: usize, least: u32
         return BandFound::Refused(Refusal::Range);
     };
     BandFound::Sound(Band { start: from, toll: price }, fields.after)
+}
+
+// The head of a leg: from, to, driving time, number of bands.
+pub fn head_from(origin: Origin, net: &[u8], list: &[u32], at: usize, places: u32) -> HeadFound
+    requires { ⌜ at ≤ 1000000 ⌝ }
+    ensures { λ r. ⌜ r ≡ headFound (head edition1 places (sourceOf origin (now (net .entry)) (now (list .entry))) at) ⌝ }
+{
+    let fields = source::head(origin, net, list, at);
+    let have = fields.have;
+    if have == 0 {
+        return HeadFound::Refused(Refusal::Short);
+    }
+    if places <= fields.a {
+        return HeadFound::Refused(Refusal::Range);
+    }
+    if have == 1 {
+        return HeadFound::Refused(Refusal::Short);
+    }
+    if places <= fields.b {
+        return HeadFound::Refused(Refusal::Range);
+    }
+    if have == 2 {
+        return HeadFound::Refused(Refusal::Short);
+    }
+    let MinuteFound::Within(time) = Minute::new(fields.c) else {
+        return HeadFound::Refused(Refusal::Range);
+    };
+    if have == 3 {
+        return HeadFound::Refused(Refusal::Short);
+    }
+    if fields.d < 1 {
+        return HeadFound::Refused(Refusal::Range);
+    }
+    if Leg::MOST_BANDS < fields.d {
+        return HeadFound::Refused(Refusal::Range);
+    }
+    let head = Head { from: fields.a, to: fields.b, time, count: fields.d as usize };
+    HeadFound::Sound(head, fields.after)
+}
+
+// What a refused leg comes back as.
+fn no_leg(why: Refusal) -> LegFound
+    ensures { λ r. ⌜ r ≡ legFound (refused why) ⌝ }
+{
+    let bands = Band::places();
+    LegFound {
+        verdict: Verdict::Refused(why),
+        leg: Leg { from: 0, to: 0, time: Minute(0), bands, count: 0 },
+        after: 0,
+    }
+}
+
+// The bands of a leg, after its head.
+pub fn bands_from(origin: Origin, net: &[u8], list: &[u32], at: usize, head: Head) -> LegFound
+    requires { ⌜ (at ≤ 900000) × (head .count ≤ 8) ⌝ }
+    ensures {
+        λ r. ⌜ r ≡ legFound (bands (head .count) 0 (bare edition1 head) (sourceOf origin (now (net .entry)) (now (list .entry))) at) ⌝
+    }
+{
+    let count = head.count;
+    let mut bands = Band::places();
+    let mut place = at;
+    let mut least = 0;
+    let mut k = 0;
+    while k < count {
+        let found = band_from(origin, net, list, place, least);
+        match found {
+            BandFound::Refused(why) => {
+                return no_leg(why);
+            }
+            BandFound::Sound(band, after) => {
+                bands[k] = band;
+                place = after;
+                least = band.start.0 + 1;
+            }
+        }
+        k += 1;
+    }
+    let time = head.time;
+    LegFound {
+        verdict: Verdict::Sound,
+        leg: Leg { from: head.from, to: head.to, time, bands, count },
+        after: place,
+    }
+}
+
+// One leg: its head, then its bands.
+pub fn leg_from(origin: Origin, net: &[u8], list: &[u32], at: usize, places: u32) -> LegFound
+    requires { ⌜ at ≤ 800000 ⌝ }
+    ensures { λ r. ⌜ r ≡ legFound (leg edition1 places (sourceOf origin (now (net .entry)) (now (list .entry))) at) ⌝ }
+{
+    let found = head_from(origin, net, list, at, places);
+    match found {
+        HeadFound::Refused(why) => no_leg(why),
+        HeadFound::Sound(head, after) => bands_from(origin, net, list, after, head),
+    }
 }
