@@ -4,22 +4,22 @@ ghost use Prim.Native.Nat.{_+_, _*_, _/_, _%_, _^_, _≤_, _<_};
 ghost use lib.ListN.{length};
 ghost use Rattle.bits.specs.Field.{field, Put};
 
-// One byte, and two, four and eight in a row, as one number: sums in pairs, which LLVM makes one load of.
-fn byte(s: &[u8], i: usize) -> u64
+// One byte, and two, four and eight in a row, as one number. Sums of pairs, and 32 bits up to four bytes: of these LLVM makes one load.
+fn byte(s: &[u8], i: usize) -> u32
     requires { ⌜ i < length (now s) ⌝ }
     ensures { λ r. ⌜ r ≡ field (now (s .entry)) (8 * i) 8 ⌝ }
 {
-    s[i] as u64
+    s[i] as u32
 }
 
-fn two(s: &[u8], i: usize) -> u64
+fn two(s: &[u8], i: usize) -> u32
     requires { ⌜ i + 2 ≤ length (now s) ⌝ }
     ensures { λ r. ⌜ r ≡ field (now (s .entry)) (8 * i) 16 ⌝ }
 {
     byte(s, i) * 0x100 + byte(s, i + 1)
 }
 
-fn four(s: &[u8], i: usize) -> u64
+fn four(s: &[u8], i: usize) -> u32
     requires { ⌜ i + 4 ≤ length (now s) ⌝ }
     ensures { λ r. ⌜ r ≡ field (now (s .entry)) (8 * i) 32 ⌝ }
 {
@@ -30,7 +30,7 @@ fn eight(s: &[u8], i: usize) -> u64
     requires { ⌜ i + 8 ≤ length (now s) ⌝ }
     ensures { λ r. ⌜ r ≡ field (now (s .entry)) (8 * i) 64 ⌝ }
 {
-    four(s, i) * 0x1_0000_0000 + four(s, i + 4)
+    four(s, i) as u64 * 0x1_0000_0000 + four(s, i + 4) as u64
 }
 
 // The `count` bytes from `i` on as one number.
@@ -41,7 +41,7 @@ fn gather(s: &[u8], i: usize, count: usize) -> u64
     let mut word: u64 = 0;
     let mut k = 0;
     while k < count {
-        word = word * 0x100 + byte(s, i + k);
+        word = word * 0x100 + byte(s, i + k) as u64;
         k += 1;
     }
     word
@@ -65,6 +65,6 @@ pub fn take(s: &[u8], at: usize, width: usize) -> u32
     if i + 8 <= s.len() {
         return cut(eight(s, i), 64 - skip - width, width);
     }
-    let count = (skip + width + 7) / 8;
+    let count = s.len() - i;
     cut(gather(s, i, count), 8 * count - skip - width, width)
 }

@@ -29,6 +29,9 @@ add-byte c = omega arith
 byte-requires : tie.Need-byte-requires Inv-loop μ-loop
 byte-requires c κs = omega arith
 
+cast-word : tie.Need-cast-word Inv-loop μ-loop
+cast-word c = search needs
+
 add-word : tie.Need-add-word Inv-loop μ-loop
 add-word c =
     let a = c .before .before .before .before .args in
@@ -64,6 +67,7 @@ gather-spec =
     mul-word
     add-byte
     byte-requires
+    cast-word
     add-word
     add-k
     loop-less
