@@ -4,26 +4,19 @@ ghost use Prim.Native.Nat.{_+_, _*_, _/_, _%_, _^_, _≤_, _<_};
 ghost use lib.ListN.{length};
 ghost use Rattle.bits.specs.Field.{field, Put};
 
-// One byte, and two, four and eight in a row, as one number. Sums of pairs, and 32 bits up to four bytes: of these LLVM makes one load.
+// One byte, and four and eight in a row, as one number. LLVM makes one load of these sums, and would not of sums of pairs.
 fn byte(s: &[u8], i: usize) -> u32
     requires { ⌜ i < length (now s) ⌝ }
-    ensures { λ r. ⌜ r ≡ field (now (s .entry)) (8 * i) 8 ⌝ }
+    ensures { λ r. ⌜ (r ≡ field (now (s .entry)) (8 * i) 8) × (r < 256) ⌝ }
 {
     s[i] as u32
-}
-
-fn two(s: &[u8], i: usize) -> u32
-    requires { ⌜ i + 2 ≤ length (now s) ⌝ }
-    ensures { λ r. ⌜ r ≡ field (now (s .entry)) (8 * i) 16 ⌝ }
-{
-    byte(s, i) * 0x100 + byte(s, i + 1)
 }
 
 fn four(s: &[u8], i: usize) -> u32
     requires { ⌜ i + 4 ≤ length (now s) ⌝ }
     ensures { λ r. ⌜ r ≡ field (now (s .entry)) (8 * i) 32 ⌝ }
 {
-    two(s, i) * 0x1_0000 + two(s, i + 2)
+    byte(s, i) * 0x100_0000 + byte(s, i + 1) * 0x1_0000 + byte(s, i + 2) * 0x100 + byte(s, i + 3)
 }
 
 fn eight(s: &[u8], i: usize) -> u64
