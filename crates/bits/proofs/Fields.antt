@@ -53,11 +53,16 @@ field-same s t at zero h = rw (field-none s at, field-none t at)
 field-same s t at (suc w) h =
     rw (field-suc s at w, field-suc t at w, field-same s t at w (λ p l u. h p l (omega arith)), h (at + w) (omega arith) (omega arith))
 
--- and equal fields have equal bits
+-- bit k of a field
 pub field-bit : (s : List ℕ) (at w k : ℕ) → k < w → bit s (at + k) ≡ field s at w / 2 ^ (w - suc k) % 2
 field-bit s at w k h =
     sym (field-one s (at + k)) ∙ field-middle s at k 1 (w - suc k) ∙ ap (λ (n : ℕ). field s at n / 2 ^ (w - suc k) % 2 ^ 1) (omega arith)
 
+-- equal fields have equal bits
+pub bits-same : (s t : List ℕ) (at w k : ℕ) → field s at w ≡ field t at w → k < w → bit s (at + k) ≡ bit t (at + k)
+bits-same s t at w k h below = rw (field-bit s at w k below, field-bit t at w k below, h)
+
+-- a field of zero bits is 0
 pub field-zero : (s : List ℕ) (at w : ℕ) → ((p : ℕ) → at ≤ p → p < at + w → bit s p ≡ 0) → field s at w ≡ 0
 field-zero s at zero h = field-none s at
 field-zero s at (suc w) h =

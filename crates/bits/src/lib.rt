@@ -2,7 +2,7 @@
 ghost use mathlib.Core.Path.{_≡_};
 ghost use Prim.Native.Nat.{_+_, _*_, _/_, _%_, _^_, _≤_, _<_};
 ghost use lib.ListN.{length};
-ghost use Rattle.bits.specs.Field.{field, Put};
+ghost use Rattle.bits.specs.Field.{field, spliced, Put, Stored};
 
 // One byte, and four and eight in a row, as one number. LLVM makes one load of these sums, and would not of sums of pairs.
 fn byte(s: &[u8], i: usize) -> u32
@@ -60,4 +60,36 @@ pub fn take(s: &[u8], at: usize, width: usize) -> u32
     }
     let count = s.len() - i;
     cut(gather(s, i, count), 8 * count - skip - width, width)
+}
+
+// `word` with `value` in place of the `width` bits above its lowest `down`.
+fn splice(word: u64, down: usize, width: usize, value: u32) -> u64
+    requires { ⌜ (1 ≤ width) × (width ≤ 32) × (down + width ≤ 64) × (value < 2 ^ width) ⌝ }
+    ensures { λ r. ⌜ r ≡ spliced word down width value ⌝ }
+{
+    word - ((cut(word, down, width) as u64) << down) + ((value as u64) << down)
+}
+
+// The lowest `count` bytes of `word` into the bytes from `i` on.
+fn scatter(s: &mut [u8], i: usize, count: usize, word: u64)
+    requires { ⌜ (count ≤ 8) × (i + count ≤ length (now s)) × (word < 2 ^ (8 * count)) ⌝ }
+    ensures { λ r. ⌜ Stored (now (s .entry)) (now (s .exit)) i count word ⌝ }
+{
+    let mut k = 0;
+    while k < count {
+        s[i + k] = ((word >> (8 * (count - 1 - k))) % 0x100) as u8;
+        k += 1;
+    }
+}
+
+// The field of `width` bits at bit `at` becomes `value`; every other bit is kept. At most five bytes are touched.
+pub fn put(s: &mut [u8], at: usize, width: usize, value: u32)
+    requires { ⌜ (1 ≤ width) × (width ≤ 32) × (value < 2 ^ width) × (at + width ≤ 8 * length (now s)) ⌝ }
+    ensures { λ r. ⌜ Put (now (s .entry)) (now (s .exit)) at width value ⌝ }
+{
+    let i = at / 8;
+    let skip = at % 8;
+    let count = (skip + width + 7) / 8;
+    let word = splice(gather(s, i, count), 8 * count - skip - width, width, value);
+    scatter(s, i, count, word);
 }
