@@ -1,6 +1,6 @@
 -- Fields and whole bytes: what a byte is as a field, how words are put together, and what bytes elsewhere do not change.
 use Prim.Native.Nat.{ℕ, zero, suc, _+_, _-_, _*_, _/_, _%_, _^_, _≤_, _<_}
-use native.Mathlib.Nat.{add-zero, add-suc, add-assoc, div-eq-of-lt, lt-of-lt-of-le}
+use native.Mathlib.Nat.{add-zero, add-suc, add-assoc, div-eq-of-lt, zero-div, lt-of-lt-of-le}
 use native.Mathlib.Omega.{arith}
 use mathlib.Core.Path.{_≡_, refl, sym, ap, _∙_}
 use mathlib.Core.List.{List, _++_}
@@ -62,6 +62,11 @@ bits-ext a b l ha hb h =
 pub bit-same : (s t : List ℕ) (p : ℕ) → getD s (p / 8) 0 ≡ getD t (p / 8) 0 → bit s p ≡ bit t p
 unfolding bit
 bit-same s t p h = rw h
+
+-- a byte of 0 has bits 0
+pub bit-of-zero : (s : List ℕ) (p : ℕ) → getD s (p / 8) 0 ≡ 0 → bit s p ≡ 0
+unfolding bit
+bit-of-zero s p h = rw (h, zero-div (2 ^ (7 - p % 8)))
 
 -- a field does not look past its last byte
 pub field-take : (n : ℕ) (s : List ℕ) (at w : ℕ) → at + w ≤ 8 * n → field (take n s) at w ≡ field s at w

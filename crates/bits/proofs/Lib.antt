@@ -3,3 +3,4 @@ pub mod Bytes
 pub mod Splices
 pub mod Stores
 pub mod Puts
+pub mod Packing

@@ -10,6 +10,9 @@ pub record Entry : Type 0 where
   pub width : ℕ
   pub value : ℕ
 
+abbrev pub item : ℕ → ℕ → Entry
+item w v = record { width = w; value = v }
+
 -- how many bits the fields have together
 abbrev pub bitsOf : List Entry → ℕ
 bitsOf [] = 0
