@@ -1,15 +1,15 @@
 -- Files of fields: what holds the fields, how a writer goes on, and that there is one file only.
-use Prim.Native.Nat.{ℕ, zero, suc, _+_, _-_, _*_, _/_, _≤_, _<_}
+use Prim.Native.Nat.{ℕ, zero, _+_, _-_, _*_, _/_, _≤_, _<_}
 use native.Mathlib.Nat.{add-assoc, add-zero, zero-add}
 use native.Mathlib.Decide.{decLt}
 use native.Mathlib.Omega.{arith}
-use mathlib.Core.Path.{_≡_, refl, sym, ap, _∙_}
+use mathlib.Core.Path.{_≡_, sym, _∙_}
 use mathlib.Core.List.{List, [], _∷_, _++_}
 use lib.ListN.{length, getD}
 use Rattle.bits.specs.Field.{bit, field, Put}
 use Rattle.bits.specs.Packed.{Entry, item, bitsOf, bytesFor, Holds, Written, Packed}
-use Rattle.bits.proofs.Fields.{field-same, bits-same}
-use Rattle.bits.proofs.Bytes.{bit-same, bits-ext, bit-of-zero}
+use Rattle.bits.proofs.Fields.{field-same, field-zero, bits-same, bits-zero}
+use Rattle.bits.proofs.Bytes.{bits-ext, bit-of-zero, bit-past}
 
 pub bits-append : (fs gs : List Entry) → bitsOf (fs ++ gs) ≡ bitsOf fs + bitsOf gs
 bits-append [] gs = sym (zero-add (bitsOf gs))
@@ -94,6 +94,27 @@ written-put {fs} {s} {t} {w} {v} h put =
       fill = λ p from. put .bits-after p (omega arith) ∙ h .fill p (omega arith);
       byte = put .byte;
     }
+
+-- a file whose fields were read and whose fill bits are zero is the file of those fields
+pub packed-of-read : (fs : List Entry) (s : List ℕ) → length s ≡ bytesFor (bitsOf fs) → Holds s 0 fs
+    → field s (bitsOf fs) (8 * length s - bitsOf fs) ≡ 0 → ((i : ℕ) → getD s i 0 < 256) → Packed fs s
+packed-of-read fs s size held zeros bytes =
+    record {
+      size = size;
+      written =
+          record {
+            holds = held;
+            fill = λ p from.
+                either (decLt p (8 * length s))
+                (λ within. bits-zero s (bitsOf fs) (8 * length s - bitsOf fs) zeros p from (omega arith))
+                (λ beyond. bit-past s p (omega arith));
+            byte = bytes;
+          };
+    }
+
+-- and the other way round
+pub packed-fill : {fs : List Entry} {s : List ℕ} → Packed fs s → (w : ℕ) → field s (bitsOf fs) w ≡ 0
+packed-fill {fs} {s} h w = field-zero s (bitsOf fs) w (λ p from to. h .written .fill p from)
 
 -- there is one file of given fields
 pub packed-unique : (fs : List Entry) (a b : List ℕ) → Packed fs a → Packed fs b → a ≡ b

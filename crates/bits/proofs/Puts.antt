@@ -1,12 +1,13 @@
 -- What a put leaves, from the bytes that it stored; and what of it callers use.
-use Prim.Native.Nat.{ℕ, zero, suc, _+_, _-_, _*_, _/_, _%_, _^_, _≤_, _<_}
+use Prim.Native.Nat.{ℕ, _+_, _-_, _*_, _/_, _%_, _^_, _≤_, _<_}
 use native.Mathlib.Decide.{decLt}
 use native.Mathlib.Omega.{arith}
 use mathlib.Core.Path.{_≡_, refl, sym, ap, _∙_}
 use mathlib.Core.List.{List}
-use lib.ListN.{length, getD}
-use Rattle.bits.specs.Field.{bit, field, spliced, Put, Stored}
-use Rattle.bits.proofs.Fields.{field-first, field-last, field-middle, field-same, bits-same}
+use lib.ListN.{getD}
+use Rattle.bits.specs.Field.{bit, field, Put}
+use Rattle.bits.specs.Word.{spliced, Stored}
+use Rattle.bits.proofs.Fields.{part-first, part-last, part-middle, field-same, bits-same}
 use Rattle.bits.proofs.Bytes.{bit-same}
 use Rattle.bits.proofs.Splices.{splice-high, splice-middle, splice-low}
 
@@ -18,15 +19,19 @@ module _ (s t : List ℕ) (i n a w d v : ℕ) (parts : a + w + d ≡ 8 * n) (sma
 
   high-kept : field t (8 * i) a ≡ field s (8 * i) a
   high-kept =
-      rw (field-first t (8 * i) a w, field-first s (8 * i) a w, field-first t (8 * i) (a + w) d, field-first s (8 * i) (a + w) d, word)
-      (splice-high (field s (8 * i) (a + w + d)) d w v small)
+      let new = part-first t (8 * i) a w (part-first t (8 * i) (a + w) d refl) in
+      let old = part-first s (8 * i) a w (part-first s (8 * i) (a + w) d refl) in
+      rw (← new, word, splice-high (field s (8 * i) (a + w + d)) d w v small) old
 
   low-kept : field t (8 * i + (a + w)) d ≡ field s (8 * i + (a + w)) d
   low-kept =
-      rw (field-last t (8 * i) (a + w) d, field-last s (8 * i) (a + w) d, word) (splice-low (field s (8 * i) (a + w + d)) d w v small)
+      sym (part-last t (8 * i) (a + w) d refl)
+      ∙ ap (λ (x : ℕ). x % 2 ^ d) word
+      ∙ splice-low (field s (8 * i) (a + w + d)) d w v small
+      ∙ part-last s (8 * i) (a + w) d refl
 
   spliced-in : field t (8 * i + a) w ≡ v
-  spliced-in = rw (field-middle t (8 * i) a w d, word) (splice-middle (field s (8 * i) (a + w + d)) d w v small)
+  spliced-in = sym (part-middle t (8 * i) a w d (sym word)) ∙ splice-middle (field s (8 * i) (a + w + d)) d w v small
 
   kept-before : (p : ℕ) → p < 8 * i + a → Dec (p < 8 * i) → bit t p ≡ bit s p
   kept-before p below (yes earlier) = bit-same t s p (h .bytes-before (p / 8) (omega arith))

@@ -1,11 +1,11 @@
 -- A number with some of its bits replaced.
-use Prim.Native.Nat.{ℕ, zero, suc, _+_, _-_, _*_, _/_, _%_, _^_, _≤_, _<_}
+use Prim.Native.Nat.{ℕ, _+_, _-_, _*_, _/_, _%_, _^_, _≤_, _<_}
 use native.Mathlib.Nat.{mod-lt}
 use native.Mathlib.Omega.{arith}
-use mathlib.Core.Path.{_≡_, refl, sym, ap, _∙_}
+use mathlib.Core.Path.{_≡_, sym, ap, _∙_}
 use lib.Arith.{digits-lt}
 use lib.Pow.{pow-pos, pow-add, split, high, low, shr-lt, shl-exact}
-use Rattle.bits.specs.Field.{spliced}
+use Rattle.bits.specs.Word.{spliced}
 
 module _ (word d w : ℕ) where
   -- what the middle bits were, with what stands around them

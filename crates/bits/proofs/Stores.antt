@@ -1,13 +1,14 @@
 -- Numbers stored byte by byte.
-use Prim.Native.Nat.{ℕ, zero, suc, _+_, _-_, _*_, _/_, _%_, _^_, _≤_, _<_}
+use Prim.Native.Nat.{ℕ, _+_, _-_, _*_, _/_, _%_, _^_, _<_}
 use native.Mathlib.Nat.{div-eq-of-lt, div-one, mod-lt, sub-zero, sub-self}
 use native.Mathlib.Omega.{arith}
-use mathlib.Core.Path.{_≡_, refl, sym, ap, _∙_}
+use mathlib.Core.Path.{_≡_, refl, sym, _∙_}
 use mathlib.Core.List.{List}
 use lib.ListN.{length, getD, set, length-set}
 use lib.Seq.{getD-set-same, getD-set-other}
 use lib.Pow.{shr-shr}
-use Rattle.bits.specs.Field.{field, Stored}
+use Rattle.bits.specs.Field.{field}
+use Rattle.bits.specs.Word.{Stored}
 use Rattle.bits.proofs.Fields.{field-none, field-same}
 use Rattle.bits.proofs.Bytes.{field-byte, bit-same, joined}
 

@@ -20,14 +20,3 @@ pub record Put (before after : List ℕ) (at w v : ℕ) : Type 0 where
   pub bits-before : (p : ℕ) → p < at → bit after p ≡ bit before p
   pub bits-after : (p : ℕ) → at + w ≤ p → bit after p ≡ bit before p
   pub byte : (i : ℕ) → getD after i 0 < 256
-
--- what storing the number x into n bytes from byte i on leaves: those bytes spell x, and every other byte is as before
-pub record Stored (before after : List ℕ) (i n x : ℕ) : Type 0 where
-  pub same-length : length after ≡ length before
-  pub bytes-before : (j : ℕ) → j < i → getD after j 0 ≡ getD before j 0
-  pub bytes-after : (j : ℕ) → i + n ≤ j → getD after j 0 ≡ getD before j 0
-  pub holds : field after (8 * i) (8 * n) ≡ x
-
--- the number `word` with v in place of the w bits above its lowest d
-unfoldable pub spliced : ℕ → ℕ → ℕ → ℕ → ℕ
-spliced word d w v = (word / 2 ^ d / 2 ^ w * 2 ^ w + v) * 2 ^ d + word % 2 ^ d

@@ -2,7 +2,8 @@
 ghost use mathlib.Core.Path.{_≡_};
 ghost use Prim.Native.Nat.{_+_, _*_, _/_, _%_, _^_, _≤_, _<_};
 ghost use lib.ListN.{length};
-ghost use Rattle.bits.specs.Field.{field, spliced, Put, Stored};
+ghost use Rattle.bits.specs.Field.{field, Put};
+ghost use Rattle.bits.specs.Word.{spliced, Stored};
 
 // One byte, and four and eight in a row, as one number. LLVM makes one load of these sums, and would not of sums of pairs.
 fn byte(s: &[u8], i: usize) -> u32

@@ -1,5 +1,5 @@
 -- `bits::eight`: the two halves are joined.
-use Prim.Native.Nat.{_*_, _+_}
+use Prim.Native.Nat.{_*_}
 use native.Mathlib.Omega.{arith}
 use borrow.Author.Needs.{needs}
 use Rattle.bits.proofs.Fields.{field-below}

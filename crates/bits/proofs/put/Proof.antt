@@ -1,9 +1,10 @@
 -- `bits::put`: the value is spliced into the bytes that hold the field.
-use Prim.Native.Nat.{_+_, _-_, _*_, _/_, _%_, _^_, _≤_, _<_}
+use Prim.Native.Nat.{_+_, _-_, _*_, _/_, _%_, _^_, _<_}
 use native.Mathlib.Omega.{arith}
 use mathlib.Core.Path.{_≡_}
 use borrow.Author.Needs.{needs}
-use Rattle.bits.specs.Field.{field, spliced}
+use Rattle.bits.specs.Field.{field}
+use Rattle.bits.specs.Word.{spliced}
 use Rattle.bits.proofs.Fields.{field-below}
 use Rattle.bits.proofs.Splices.{splice-below}
 use Rattle.bits.proofs.Puts.{put-of-stored}

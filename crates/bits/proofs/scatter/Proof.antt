@@ -1,10 +1,8 @@
 -- `bits::scatter`: the bytes passed hold the high bytes of the number.
-use Prim.Native.Nat.{ℕ, _+_, _-_, _*_, _/_, _^_, _≤_, _<_}
+use Prim.Native.Nat.{_-_, _*_, _/_, _^_, _≤_}
 use native.Mathlib.Omega.{arith}
 use mathlib.Core.Path.{_≡_}
-use lib.ListN.{length}
-use borrow.Author.Needs.{needs}
-use Rattle.bits.specs.Field.{Stored}
+use Rattle.bits.specs.Word.{Stored}
 use Rattle.bits.proofs.Stores.{store-start, store-step, store-all}
 use Rattle.bits.proofs.scatter.Statement.{statement}
 use Rattle.bits.proofs.scatter.Tie as tie
