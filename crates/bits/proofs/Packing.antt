@@ -106,7 +106,7 @@ packed-of-read fs s size held zeros bytes =
             holds = held;
             fill = λ p from.
                 either (decLt p (8 * length s))
-                (λ within. bits-zero s (bitsOf fs) (8 * length s - bitsOf fs) zeros p from (omega arith))
+                (λ within. bits-zero s (bitsOf fs) (8 * length s - bitsOf fs) zeros p (omega arith) (omega arith))
                 (λ beyond. bit-past s p (omega arith));
             byte = bytes;
           };

@@ -11,6 +11,24 @@ use Rattle.bits.proofs.Puts.{put-of-stored}
 use Rattle.bits.proofs.put.Statement.{statement}
 use Rattle.bits.proofs.put.Tie as tie
 
+-- first, so that a wrong program is refused here
+returns : tie.Need-returns
+returns c =
+    let start = c .before .before .before .before .before .before .before .before in
+    let a = start .args in
+    let i = a .at / 8 in
+    let n = (a .at % 8 + a .width + 7) / 8 in
+    let d = 8 * n - a .at % 8 - a .width in
+    let after = c .before .before .scatter .last .0 in
+    let place : 8 * i + a .at % 8 ≡ a .at = omega arith in
+    let word : c .before .before .before .before .splice .result ≡ spliced (field (a .s .now) (8 * i) (8 * n)) d (a .width) (a .value) =
+    rw (c .before .before .before .before .splice .ensures, c .before .before .before .before .before .gather .ensures)
+    in
+    rw place at
+    (put-of-stored (a .s .now) after i n (a .at % 8) (a .width) d (a .value) (omega arith) (start .pre .2)
+    (rw word at (c .before .before .scatter .ensures))
+    (λ j. omega (arith, c .slice-known2 .given j)))
+
 add-count : tie.Need-add-count
 add-count c = search needs
 
@@ -49,23 +67,6 @@ scatter-requires c κs =
 
 same-length : tie.Need-same-length
 same-length c = search needs
-
-returns : tie.Need-returns
-returns c =
-    let start = c .before .before .before .before .before .before .before .before in
-    let a = start .args in
-    let i = a .at / 8 in
-    let n = (a .at % 8 + a .width + 7) / 8 in
-    let d = 8 * n - a .at % 8 - a .width in
-    let after = c .before .before .scatter .last .0 in
-    let place : 8 * i + a .at % 8 ≡ a .at = omega arith in
-    let word : c .before .before .before .before .splice .result ≡ spliced (field (a .s .now) (8 * i) (8 * n)) d (a .width) (a .value) =
-    rw (c .before .before .before .before .splice .ensures, c .before .before .before .before .before .gather .ensures)
-    in
-    rw place at
-    (put-of-stored (a .s .now) after i n (a .at % 8) (a .width) d (a .value) (omega arith) (start .pre .2)
-    (rw word at (c .before .before .scatter .ensures))
-    (λ j. omega (arith, c .slice-known2 .given j)))
 
 pub put-spec : {M : Type 1} → statement M
 put-spec =

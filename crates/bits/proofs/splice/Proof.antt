@@ -5,6 +5,12 @@ use Rattle.bits.proofs.Splices.{old-within, splice-code, splice-below}
 use Rattle.bits.proofs.splice.Statement.{statement}
 use Rattle.bits.proofs.splice.Tie as tie
 
+-- first, so that a wrong program is refused here
+returns : tie.Need-returns
+returns c =
+    let a = c .before .args in
+    rw (c .cut .ensures) (splice-code (a .word) (a .down) (a .width) (a .value) (c .before .pre .3) (omega arith))
+
 cut-requires : tie.Need-cut-requires
 cut-requires c κs = search needs
 
@@ -21,11 +27,6 @@ sub-result c =
 
 shl-result-2 : tie.Need-shl-result-2
 shl-result-2 c = search needs
-
-returns : tie.Need-returns
-returns c =
-    let a = c .before .args in
-    rw (c .cut .ensures) (splice-code (a .word) (a .down) (a .width) (a .value) (c .before .pre .3) (omega arith))
 
 add-result : tie.Need-add-result
 add-result c =
