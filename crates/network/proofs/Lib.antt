@@ -1,3 +1,4 @@
 pub mod Bands
 pub mod Inversion
 pub mod Heads
+pub mod Legs

@@ -6,7 +6,12 @@ ghost use Rattle.network.specs.Reading.{refused};
 ghost use Rattle.network.specs.Network.{edition1, follows, band, bands, bare, head, leg, network};
 ghost use Rattle.network.specs.Answers.{bandFound, headFound, legFound, networkFound};
 use answer::Refusal;
-use leg::{Band, Cents, CentsFound, Leg, Minute, MinuteFound};
+use leg::Band;
+use leg::Cents;
+use leg::CentsFound;
+use leg::Leg;
+use leg::Minute;
+use leg::MinuteFound;
 use source::Origin;
 
 // A band and the place after it, or why there is none.
@@ -56,7 +61,11 @@ pub enum NetworkFound {
 fn rises(least: u32, start: u32) -> bool
     ensures { λ r. ⌜ r ≡ follows least start ⌝ }
 {
-    if least == 0 { start == 0 } else { least <= start }
+    if least == 0 {
+        start == 0
+    } else {
+        least <= start
+    }
 }
 
 // One band: start, then toll.
@@ -83,7 +92,13 @@ pub fn band_from(origin: Origin, net: &[u8], list: &[u32], at: usize, least: u32
     let CentsFound::Within(price) = Cents::new(toll) else {
         return BandFound::Refused(Refusal::Range);
     };
-    BandFound::Sound(Band { start: from, toll: price }, fields.after)
+    BandFound::Sound(
+        Band {
+            start: from,
+            toll: price,
+        },
+        fields.after,
+    )
 }
 
 // The head of a leg: from, to, driving time, number of bands.
@@ -120,7 +135,12 @@ pub fn head_from(origin: Origin, net: &[u8], list: &[u32], at: usize, places: u3
     if Leg::MOST_BANDS < fields.d {
         return HeadFound::Refused(Refusal::Range);
     }
-    let head = Head { from: fields.a, to: fields.b, time, count: fields.d as usize };
+    let head = Head {
+        from: fields.a,
+        to: fields.b,
+        time,
+        count: fields.d as usize,
+    };
     HeadFound::Sound(head, fields.after)
 }
 
@@ -131,7 +151,13 @@ fn no_leg(why: Refusal) -> LegFound
     let bands = Band::places();
     LegFound {
         verdict: Verdict::Refused(why),
-        leg: Leg { from: 0, to: 0, time: Minute(0), bands, count: 0 },
+        leg: Leg {
+            from: 0,
+            to: 0,
+            time: Minute(0),
+            bands,
+            count: 0,
+        },
         after: 0,
     }
 }
@@ -139,9 +165,7 @@ fn no_leg(why: Refusal) -> LegFound
 // The bands of a leg, after its head.
 pub fn bands_from(origin: Origin, net: &[u8], list: &[u32], at: usize, head: Head) -> LegFound
     requires { ⌜ (at ≤ 900000) × (head .count ≤ 8) ⌝ }
-    ensures {
-        λ r. ⌜ r ≡ legFound (bands (head .count) 0 (bare edition1 head) (sourceOf origin (now (net .entry)) (now (list .entry))) at) ⌝
-    }
+    ensures { λ r. ⌜ r ≡ legFound (bands (head .count) 0 (bare edition1 head) (sourceOf origin (now (net .entry)) (now (list .entry))) at) ⌝ }
 {
     let count = head.count;
     let mut bands = Band::places();
@@ -165,7 +189,13 @@ pub fn bands_from(origin: Origin, net: &[u8], list: &[u32], at: usize, head: Hea
     let time = head.time;
     LegFound {
         verdict: Verdict::Sound,
-        leg: Leg { from: head.from, to: head.to, time, bands, count },
+        leg: Leg {
+            from: head.from,
+            to: head.to,
+            time,
+            bands,
+            count,
+        },
         after: place,
     }
 }
