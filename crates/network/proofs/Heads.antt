@@ -1,16 +1,16 @@
 -- The head of a leg, by what was fetched: an outcome for each way through document 01's tests.
-use Prim.Native.Nat.{ℕ, _+_, _≤_, _<_}
-use mathlib.Core.Path.{_≡_, refl, sym, _∙_}
-use mathlib.Core.Bool.{Bool, true, false}
-use mathlib.Core.List.{List, [], _∷_}
+use Prim.Native.Nat.{ℕ, _≤_, _<_}
+use mathlib.Core.Path.{_≡_}
+use mathlib.Core.Bool.{true, false}
+use mathlib.Core.List.{[], _∷_}
 use native.Mathlib.Omega.{arith}
-use lib.Dec.{leb, ltb}
+use lib.Dec.{leb}
 use borrow.Author.Tests.{lt-ltb, le-ltb, le-leb, lt-leb}
 use Rattle.answer.specs.declared.Refusal.the-variants.{Short, Range}
 use Rattle.leg.specs.Ranges.{lastMinute, minute}
 use Rattle.source.specs.declared.Fields.{Fields}
 use Rattle.source.specs.Source.{Source, headWidths, Fetched}
-use Rattle.network.specs.Reading.{Found, refused, found}
+use Rattle.network.specs.Reading.{refused, found}
 use Rattle.network.specs.Network.{edition1, head}
 
 module _ (src : Source) (at places : ℕ) (f : Fields) (h : Fetched src at headWidths (f .a ∷ f .b ∷ f .c ∷ f .d ∷ []) 0 (f .have) (f .after)) where

@@ -1,20 +1,19 @@
 -- A reading that found something went through each of its parts.
-use Prim.Native.Nat.{ℕ, suc, _+_, _≤_, _<_}
-use mathlib.Core.Path.{_≡_, refl, sym, subst, _∙_}
+use Prim.Native.Nat.{ℕ, _≤_}
+use mathlib.Core.Path.{_≡_, refl}
 use mathlib.Core.Bool.{Bool, true, false}
-use mathlib.Core.List.{List, [], _∷_, _++_}
 use native.Mathlib.Omega.{arith}
-use borrow.Author.Tests.{leb-true}
+use borrow.Author.Tests.{leb-true, eqb-true}
 use lib.Dec.{leb, ltb, eqb}
 use Rattle.answer.specs.declared.Refusal.{Refusal}
-use Rattle.answer.specs.declared.Refusal.the-variants.{Short, Range, Order}
+use Rattle.answer.specs.declared.Refusal.the-variants.{Short, Edition, Range, Order}
 use Rattle.leg.specs.declared.Band.{Band}
-use Rattle.leg.specs.declared.Leg.{Leg}
 use Rattle.leg.specs.Ranges.{lastMinute, mostCents, minute, bandOf}
 use Rattle.source.specs.Source.{Source, both}
 use Rattle.network.specs.declared.Head.{Head}
-use Rattle.network.specs.Reading.{Found, refused, found, Reading, next, pick, field, check, end}
-use Rattle.network.specs.Network.{Form, follows, band, head}
+use Rattle.network.specs.declared.Top.{Top}
+use Rattle.network.specs.Reading.{Found, refused, found, next, pick, field, end}
+use Rattle.network.specs.Network.{Form, follows, band, head, top}
 
 module _ {B : Type 0} (b : B) (end : ℕ) where
   -- a test that the reading passed
@@ -127,3 +126,38 @@ module _ (src : Source) (at : ℕ) where
   head-count form places h end r =
       let t = both-true (leb 1 (h .count)) (leb (h .count) (form .mostBands)) (r .count-within) in
       (leb-true 1 (h .count) (t .0), leb-true (h .count) (form .mostBands) (t .1))
+
+  -- the head of a network that was found
+  pub record TopRead (t : Top) (end : ℕ) : Type 0 where
+    pub edition-there : src .has 8 at ≡ true
+    pub edition-is : src .value 8 at ≡ 1
+    pub places-there : src .has 7 (src .after 8 at) ≡ true
+    pub places-within : (1 ≤ t .places) × (t .places ≤ 64)
+    pub legs-there : src .has 10 (src .after 7 (src .after 8 at)) ≡ true
+    pub legs-within : t .legs ≤ 512
+    pub top-is : t ≡ record { places = src .value 7 (src .after 8 at); legs = src .value 10 (src .after 7 (src .after 8 at)) }
+    pub end-is : end ≡ src .after 10 (src .after 7 (src .after 8 at))
+
+  pub top-inv : (t : Top) (end : ℕ) → top src at ≡ found t end → TopRead t end
+  top-inv t end e =
+      let at₁ = src .after 8 at in
+      let at₂ = src .after 7 at₁ in
+      let at₃ = src .after 10 at₂ in
+      let v = field-step t end (src .has 8 at) Short (src .value 8 at) at₁ _ e in
+      let vr = check-step t end (eqb (src .value 8 at) 1) Edition at₁ _ (v .1) in
+      let p = field-step t end (src .has 7 at₁) Short (src .value 7 at₁) at₂ _ (vr .1) in
+      let pr = check-step t end (both (leb 1 (src .value 7 at₁)) (leb (src .value 7 at₁) 64)) Range at₂ _ (p .1) in
+      let n = field-step t end (src .has 10 at₂) Short (src .value 10 at₂) at₃ _ (pr .1) in
+      let nr = check-step t end (leb (src .value 10 at₂) 512) Range at₃ _ (n .1) in
+      let is : t ≡ record { places = src .value 7 at₁; legs = src .value 10 at₂ } = cc (nr .1) in
+      let w = both-true (leb 1 (src .value 7 at₁)) (leb (src .value 7 at₁) 64) (pr .0) in
+      record {
+        edition-there = v .0;
+        edition-is = eqb-true (src .value 8 at) 1 (vr .0);
+        places-there = p .0;
+        places-within = rw is (leb-true 1 (src .value 7 at₁) (w .0), leb-true (src .value 7 at₁) 64 (w .1));
+        legs-there = n .0;
+        legs-within = rw is (leb-true (src .value 10 at₂) 512 (nr .0));
+        top-is = is;
+        end-is = cc (nr .1);
+      }

@@ -2,3 +2,5 @@ pub mod Bands
 pub mod Inversion
 pub mod Heads
 pub mod Legs
+pub mod Tops
+pub mod Near

@@ -3,8 +3,8 @@ ghost use mathlib.Core.Path.{_≡_};
 ghost use Prim.Native.Nat.{_≤_};
 ghost use Rattle.source.specs.Source.{sourceOf};
 ghost use Rattle.network.specs.Reading.{refused};
-ghost use Rattle.network.specs.Network.{edition1, follows, band, bands, bare, head, leg, network};
-ghost use Rattle.network.specs.Answers.{bandFound, headFound, legFound, networkFound};
+ghost use Rattle.network.specs.Network.{edition1, follows, band, bands, bare, head, leg, top, body, network};
+ghost use Rattle.network.specs.Answers.{bandFound, headFound, topFound, legFound, networkFound};
 use answer::Refusal;
 use leg::Band;
 use leg::Cents;
@@ -45,6 +45,17 @@ pub struct LegFound {
     pub after: usize,
 }
 
+// The head of a network: how many places and how many legs.
+pub struct Top {
+    pub places: u32,
+    pub legs: usize,
+}
+
+pub enum TopFound {
+    Refused(Refusal),
+    Sound(Top, usize),
+}
+
 // How large a network is: its places, its legs, and the bands of all legs together.
 pub struct Size {
     pub places: u32,
@@ -55,6 +66,14 @@ pub struct Size {
 pub enum NetworkFound {
     Refused(Refusal),
     Sound(Size),
+}
+
+impl Top {
+    pub const EDITION: u32 = 1;
+
+    pub const MOST_PLACES: u32 = 64;
+
+    pub const MOST_LEGS: u32 = 512;
 }
 
 // The first band starts at 0, a later one above the one before.
@@ -209,5 +228,82 @@ pub fn leg_from(origin: Origin, net: &[u8], list: &[u32], at: usize, places: u32
     match found {
         HeadFound::Refused(why) => no_leg(why),
         HeadFound::Sound(head, after) => bands_from(origin, net, list, after, head),
+    }
+}
+
+// The head of a network: edition, places, number of legs.
+pub fn top_from(origin: Origin, net: &[u8], list: &[u32]) -> TopFound
+    ensures { λ r. ⌜ r ≡ topFound (top (sourceOf origin (now (net .entry)) (now (list .entry))) 0) ⌝ }
+{
+    let fields = source::top(origin, net, list);
+    let have = fields.have;
+    if have == 0 {
+        return TopFound::Refused(Refusal::Short);
+    }
+    if fields.a != Top::EDITION {
+        return TopFound::Refused(Refusal::Edition);
+    }
+    if have == 1 {
+        return TopFound::Refused(Refusal::Short);
+    }
+    if fields.b < 1 {
+        return TopFound::Refused(Refusal::Range);
+    }
+    if Top::MOST_PLACES < fields.b {
+        return TopFound::Refused(Refusal::Range);
+    }
+    if have == 2 {
+        return TopFound::Refused(Refusal::Short);
+    }
+    if Top::MOST_LEGS < fields.c {
+        return TopFound::Refused(Refusal::Range);
+    }
+    let top = Top {
+        places: fields.b,
+        legs: fields.c as usize,
+    };
+    TopFound::Sound(top, fields.after)
+}
+
+// The legs of a network, and nothing after them.
+pub fn body_from(origin: Origin, net: &[u8], list: &[u32], at: usize, top: Top) -> NetworkFound
+    requires { ⌜ (at ≤ 1000) × (top .legs ≤ 512) ⌝ }
+    ensures { λ r. ⌜ r ≡ networkFound (body edition1 top (sourceOf origin (now (net .entry)) (now (list .entry))) at) ⌝ }
+{
+    let legs = top.legs;
+    let places = top.places;
+    let mut place = at;
+    let mut bands = 0;
+    let mut k = 0;
+    while k < legs {
+        let found = leg_from(origin, net, list, place, places);
+        let verdict = found.verdict;
+        if let Verdict::Refused(why) = verdict {
+            return NetworkFound::Refused(why);
+        }
+        let leg = found.leg;
+        place = found.after;
+        bands += leg.count;
+        k += 1;
+    }
+    if source::ends(origin, net, list, place) {
+        NetworkFound::Sound(Size {
+            places,
+            legs,
+            bands,
+        })
+    } else {
+        NetworkFound::Refused(Refusal::Tail)
+    }
+}
+
+// A whole network: what a file or a list of numbers stands for, and how large it is.
+pub fn network_from(origin: Origin, net: &[u8], list: &[u32]) -> NetworkFound
+    ensures { λ r. ⌜ r ≡ networkFound (network edition1 (sourceOf origin (now (net .entry)) (now (list .entry))) 0) ⌝ }
+{
+    let found = top_from(origin, net, list);
+    match found {
+        TopFound::Refused(why) => NetworkFound::Refused(why),
+        TopFound::Sound(top, after) => body_from(origin, net, list, after, top),
     }
 }

@@ -8,7 +8,8 @@ use Rattle.network.specs.Reading.{found}
 use Rattle.network.specs.Network.{edition1, bare, band, bands as bandsFrom}
 use Rattle.network.specs.Answers.{legFound}
 use Rattle.network.proofs.Inversion.{BandRead, band-inv, start-small}
-use Rattle.network.proofs.Legs.{partLeg, bands-more, bands-refused, bands-done, band-of-sound, band-of-refused, after-near}
+use Rattle.network.proofs.Legs.{partLeg, bands-more, bands-refused, bands-done, band-of-sound, band-of-refused}
+use Rattle.network.proofs.Near.{band-near}
 use Rattle.network.proofs.bands_from.Statement.{statement}
 use Rattle.network.proofs.bands_from.Tie as tie
 
@@ -81,15 +82,12 @@ loop-again c =
     let l = c .before .before .before .before .before .before .loop in
     let a = c .before .before .before .before .before .before .before .before .before .before .args in
     let src = sourceOf (c .before .before .before .before .before .before .before .before .before .before .args .origin) (c .before .before .before .before .before .before .before .before .before .before .args .net .now) (c .before .before .before .before .before .before .before .before .before .before .args .list .now) in
-    let t = tested c in
-    let first = after-near (a .origin) (a .net .now) (a .list .now) 12 (l .place) (omega arith) in
-    let second = after-near (a .origin) (a .net .now) (a .list .now) 16 (src .after 12 (l .place)) (omega arith) in
-    let end = t .end-is in
+    let near = band-near (a .origin) (a .net .now) (a .list .now) (l .least) (l .place) _ _ (this-band c) in
     let left : a .head .count - l .k ≡ suc (a .head .count - (l .k + 1)) = omega arith in (
       omega arith,
       omega arith,
       omega arith,
-      omega (arith, first, second, end),
+      omega (arith, near),
       l .inv .4 ∙ bands-more src _ _ (l .least) (l .place) (partLeg (a .head) (l .bands) (l .k)) left _ _ (this-band c),
     )
 

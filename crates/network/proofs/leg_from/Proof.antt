@@ -5,8 +5,8 @@ use Rattle.source.specs.Source.{sourceOf}
 use Rattle.network.specs.Reading.{found}
 use Rattle.network.specs.Network.{edition1, head}
 use Rattle.network.specs.Answers.{legFound}
-use Rattle.network.proofs.Inversion.{head-inv, head-count}
-use Rattle.network.proofs.Legs.{leg-refused, leg-headed, head-of-sound, head-of-refused, after-near}
+use Rattle.network.proofs.Legs.{leg-refused, leg-headed, head-of-sound, head-of-refused}
+use Rattle.network.proofs.Near.{head-near}
 use Rattle.network.proofs.leg_from.Statement.{statement}
 use Rattle.network.proofs.leg_from.Tie as tie
 
@@ -32,15 +32,8 @@ this-head c =
 bands-from-requires : tie.Need-bands-from-requires
 bands-from-requires c κs =
     let a = c .before .before .before .before .before .before .args in
-    let src = sourceOf (c .before .before .before .before .before .before .args .origin) (c .before .before .before .before .before .before .args .net .now) (c .before .before .before .before .before .before .args .list .now) in
-    let h = head-inv src (a .at) edition1 (a .places) _ _ (this-head c) in
-    let at₁ = src .after 6 (a .at) in
-    let near = after-near (a .origin) (a .net .now) (a .list .now) in
-    let n₁ = near 6 (a .at) (omega arith) in
-    let n₂ = near 6 at₁ (omega arith) in
-    let n₃ = near 12 (src .after 6 at₁) (omega arith) in
-    let n₄ = near 4 (src .after 12 (src .after 6 at₁)) (omega arith) in
-    (omega (arith, n₁, n₂, n₃, n₄, h .end-is), head-count src (a .at) edition1 (a .places) _ _ h .1)
+    let h = head-near (a .origin) (a .net .now) (a .list .now) (a .places) (a .at) _ _ (this-head c) in
+    (omega (arith, h .0), h .1)
 
 returns : tie.Need-returns
 returns c =
