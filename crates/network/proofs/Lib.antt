@@ -4,3 +4,4 @@ pub mod Heads
 pub mod Legs
 pub mod Tops
 pub mod Near
+pub mod Fields
