@@ -1,14 +1,14 @@
 -- Fields and whole bytes: what a byte is as a field, how words are put together, and what bytes elsewhere do not change.
 use Prim.Native.Nat.{ℕ, zero, suc, _+_, _-_, _*_, _/_, _%_, _^_, _≤_, _<_}
-use native.Mathlib.Nat.{add-zero, add-suc, add-assoc, div-eq-of-lt, lt-of-lt-of-le}
+use native.Mathlib.Nat.{add-assoc, div-eq-of-lt, zero-div, lt-of-lt-of-le}
 use native.Mathlib.Omega.{arith}
-use mathlib.Core.Path.{_≡_, refl, sym, ap, _∙_}
+use mathlib.Core.Path.{_≡_, sym, ap, _∙_}
 use mathlib.Core.List.{List, _++_}
-use lib.ListN.{length, getD, take, List·getD-append}
-use lib.Seq.{ext-getD, getD-take}
+use lib.ListN.{length, getD, take, drop, List·getD-append, List·getD-eq-default}
+use lib.Seq.{ext-getD, getD-take, getD-drop}
 use lib.Pow.{shr-shr, pow-mono}
 use Rattle.bits.specs.Field.{bit, field}
-use Rattle.bits.proofs.Fields.{field-none, field-suc, field-below, field-split, field-middle, field-same}
+use Rattle.bits.proofs.Fields.{field-none, field-suc, field-below, field-split, part-middle, field-same}
 
 -- bit k of byte i
 pub bit-of-byte : (s : List ℕ) (i k : ℕ) → k < 8 → bit s (8 * i + k) ≡ getD s i 0 / 2 ^ (7 - k) % 2
@@ -45,11 +45,11 @@ bytes-below s i k n h = lt-of-lt-of-le (field-below s (8 * i) (8 * k)) (pow-mono
 -- a field, cut out of the bytes that hold it
 pub field-cut : (s : List ℕ) (at w n : ℕ) {x : ℕ} → at % 8 + w ≤ 8 * n → x ≡ field s (8 * (at / 8)) (8 * n)
     → x / 2 ^ (8 * n - at % 8 - w) % 2 ^ w ≡ field s at w
-field-cut s at w n h e =
+field-cut s at w n {x} h e =
     let down = 8 * n - at % 8 - w in
     let place : 8 * (at / 8) + at % 8 ≡ at = omega arith in
     let whole : at % 8 + w + down ≡ 8 * n = omega arith in
-    rw e (rw (place, whole) at (sym (field-middle s (8 * (at / 8)) (at % 8) w down)))
+    rw place at (part-middle s (8 * (at / 8)) (at % 8) w down {x = x} (rw whole e))
 
 -- bytes with equal bits are equal
 pub bits-ext : (a b : List ℕ) → length a ≡ length b → ((i : ℕ) → getD a i 0 < 256) → ((i : ℕ) → getD b i 0 < 256)
@@ -63,11 +63,37 @@ pub bit-same : (s t : List ℕ) (p : ℕ) → getD s (p / 8) 0 ≡ getD t (p / 8
 unfolding bit
 bit-same s t p h = rw h
 
--- a field does not look past its last byte
+-- a byte of 0 has bits 0
+pub bit-of-zero : (s : List ℕ) (p : ℕ) → getD s (p / 8) 0 ≡ 0 → bit s p ≡ 0
+unfolding bit
+bit-of-zero s p h = rw (h, zero-div (2 ^ (7 - p % 8)))
+
+-- past the end every bit is 0
+pub bit-past : (s : List ℕ) (p : ℕ) → 8 * length s ≤ p → bit s p ≡ 0
+bit-past s p h = bit-of-zero s p (List·getD-eq-default s 0 (omega arith))
+
+-- bits and fields do not look past their last byte
+pub bit-take : (n : ℕ) (s : List ℕ) (p : ℕ) → p < 8 * n → bit (take n s) p ≡ bit s p
+bit-take n s p h = bit-same (take n s) s p (getD-take n s (p / 8) 0 (omega arith))
+
+pub bit-append : (a b : List ℕ) (p : ℕ) → p < 8 * length a → bit (a ++ b) p ≡ bit a p
+bit-append a b p h = bit-same (a ++ b) a p (List·getD-append a b 0 (p / 8) (omega arith))
+
 pub field-take : (n : ℕ) (s : List ℕ) (at w : ℕ) → at + w ≤ 8 * n → field (take n s) at w ≡ field s at w
-field-take n s at w h =
-    field-same (take n s) s at w λ p from to. bit-same (take n s) s p (getD-take n s (p / 8) 0 (omega arith))
+field-take n s at w h = field-same (take n s) s at w λ p from to. bit-take n s p (omega arith)
 
 pub field-append : (a b : List ℕ) (at w : ℕ) → at + w ≤ 8 * length a → field (a ++ b) at w ≡ field a at w
-field-append a b at w h =
-    field-same (a ++ b) a at w λ p from to. bit-same (a ++ b) a p (List·getD-append a b 0 (p / 8) (omega arith))
+field-append a b at w h = field-same (a ++ b) a at w λ p from to. bit-append a b p (omega arith)
+
+-- with the first n bytes gone, what is left stands 8 * n bits earlier
+pub bit-drop : (n : ℕ) (s : List ℕ) (p : ℕ) → bit (drop n s) p ≡ bit s (8 * n + p)
+unfolding bit
+bit-drop n s p =
+    let q : (8 * n + p) / 8 ≡ n + p / 8 = omega arith in
+    let r : (8 * n + p) % 8 ≡ p % 8 = omega arith in
+    rw (getD-drop n s (p / 8) 0, q, r)
+
+pub field-drop : (n : ℕ) (s : List ℕ) (at w : ℕ) → field (drop n s) at w ≡ field s (8 * n + at) w
+field-drop n s at zero = rw (field-none (drop n s) at, field-none s (8 * n + at))
+field-drop n s at (suc w) =
+    rw (field-suc (drop n s) at w, field-suc s (8 * n + at) w, field-drop n s at w, bit-drop n s (at + w), add-assoc (8 * n) at w)

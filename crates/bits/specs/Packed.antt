@@ -1,5 +1,5 @@
 -- A file of fields and nothing else.
-use Prim.Native.Nat.{ℕ, _+_, _*_, _/_, _≤_, _<_}
+use Prim.Native.Nat.{ℕ, _+_, _/_, _≤_, _<_}
 use mathlib.Core.Path.{_≡_}
 use mathlib.Core.List.{List, [], _∷_}
 use lib.ListN.{length, getD}
@@ -9,6 +9,9 @@ use Rattle.bits.specs.Field.{bit, field}
 pub record Entry : Type 0 where
   pub width : ℕ
   pub value : ℕ
+
+abbrev pub item : ℕ → ℕ → Entry
+item w v = record { width = w; value = v }
 
 -- how many bits the fields have together
 abbrev pub bitsOf : List Entry → ℕ

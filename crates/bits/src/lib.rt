@@ -3,34 +3,28 @@ ghost use mathlib.Core.Path.{_≡_};
 ghost use Prim.Native.Nat.{_+_, _*_, _/_, _%_, _^_, _≤_, _<_};
 ghost use lib.ListN.{length};
 ghost use Rattle.bits.specs.Field.{field, Put};
+ghost use Rattle.bits.specs.Word.{spliced, Stored};
 
-// One byte, and two, four and eight in a row, as one number: sums in pairs, which LLVM makes one load of.
-fn byte(s: &[u8], i: usize) -> u64
+// One byte, and four and eight in a row, as one number. LLVM makes one load of these sums, and would not of sums of pairs.
+fn byte(s: &[u8], i: usize) -> u32
     requires { ⌜ i < length (now s) ⌝ }
-    ensures { λ r. ⌜ r ≡ field (now (s .entry)) (8 * i) 8 ⌝ }
+    ensures { λ r. ⌜ (r ≡ field (now (s .entry)) (8 * i) 8) × (r < 256) ⌝ }
 {
-    s[i] as u64
+    s[i] as u32
 }
 
-fn two(s: &[u8], i: usize) -> u64
-    requires { ⌜ i + 2 ≤ length (now s) ⌝ }
-    ensures { λ r. ⌜ r ≡ field (now (s .entry)) (8 * i) 16 ⌝ }
-{
-    byte(s, i) * 0x100 + byte(s, i + 1)
-}
-
-fn four(s: &[u8], i: usize) -> u64
+fn four(s: &[u8], i: usize) -> u32
     requires { ⌜ i + 4 ≤ length (now s) ⌝ }
     ensures { λ r. ⌜ r ≡ field (now (s .entry)) (8 * i) 32 ⌝ }
 {
-    two(s, i) * 0x1_0000 + two(s, i + 2)
+    byte(s, i) * 0x100_0000 + byte(s, i + 1) * 0x1_0000 + byte(s, i + 2) * 0x100 + byte(s, i + 3)
 }
 
 fn eight(s: &[u8], i: usize) -> u64
     requires { ⌜ i + 8 ≤ length (now s) ⌝ }
     ensures { λ r. ⌜ r ≡ field (now (s .entry)) (8 * i) 64 ⌝ }
 {
-    four(s, i) * 0x1_0000_0000 + four(s, i + 4)
+    four(s, i) as u64 * 0x1_0000_0000 + four(s, i + 4) as u64
 }
 
 // The `count` bytes from `i` on as one number.
@@ -41,7 +35,7 @@ fn gather(s: &[u8], i: usize, count: usize) -> u64
     let mut word: u64 = 0;
     let mut k = 0;
     while k < count {
-        word = word * 0x100 + byte(s, i + k);
+        word = word * 0x100 + byte(s, i + k) as u64;
         k += 1;
     }
     word
@@ -65,6 +59,38 @@ pub fn take(s: &[u8], at: usize, width: usize) -> u32
     if i + 8 <= s.len() {
         return cut(eight(s, i), 64 - skip - width, width);
     }
-    let count = (skip + width + 7) / 8;
+    let count = s.len() - i;
     cut(gather(s, i, count), 8 * count - skip - width, width)
+}
+
+// `word` with `value` in place of the `width` bits above its lowest `down`.
+fn splice(word: u64, down: usize, width: usize, value: u32) -> u64
+    requires { ⌜ (1 ≤ width) × (width ≤ 32) × (down + width ≤ 64) × (value < 2 ^ width) ⌝ }
+    ensures { λ r. ⌜ r ≡ spliced word down width value ⌝ }
+{
+    word - ((cut(word, down, width) as u64) << down) + ((value as u64) << down)
+}
+
+// The lowest `count` bytes of `word` into the bytes from `i` on.
+fn scatter(s: &mut [u8], i: usize, count: usize, word: u64)
+    requires { ⌜ (count ≤ 8) × (i + count ≤ length (now s)) × (word < 2 ^ (8 * count)) ⌝ }
+    ensures { λ r. ⌜ Stored (now (s .entry)) (now (s .exit)) i count word ⌝ }
+{
+    let mut k = 0;
+    while k < count {
+        s[i + k] = ((word >> (8 * (count - 1 - k))) % 0x100) as u8;
+        k += 1;
+    }
+}
+
+// The field of `width` bits at bit `at` becomes `value`; every other bit is kept. At most five bytes are touched.
+pub fn put(s: &mut [u8], at: usize, width: usize, value: u32)
+    requires { ⌜ (1 ≤ width) × (width ≤ 32) × (value < 2 ^ width) × (at + width ≤ 8 * length (now s)) ⌝ }
+    ensures { λ r. ⌜ Put (now (s .entry)) (now (s .exit)) at width value ⌝ }
+{
+    let i = at / 8;
+    let skip = at % 8;
+    let count = (skip + width + 7) / 8;
+    let word = splice(gather(s, i, count), 8 * count - skip - width, width, value);
+    scatter(s, i, count, word);
 }

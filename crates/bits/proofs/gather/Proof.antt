@@ -4,7 +4,7 @@ use mathlib.Core.Path.{_≡_, sym}
 use native.Mathlib.Omega.{arith}
 use borrow.Author.Needs.{needs}
 use Rattle.bits.specs.Field.{field}
-use Rattle.bits.proofs.Fields.{field-below, field-none}
+use Rattle.bits.proofs.Fields.{field-none}
 use Rattle.bits.proofs.Bytes.{joined, bytes-below}
 use Rattle.bits.proofs.gather.Statement.{statement}
 use Rattle.bits.proofs.gather.Tie as tie
@@ -29,11 +29,14 @@ add-byte c = omega arith
 byte-requires : tie.Need-byte-requires Inv-loop μ-loop
 byte-requires c κs = omega arith
 
+cast-word : tie.Need-cast-word Inv-loop μ-loop
+cast-word c = search needs
+
 add-word : tie.Need-add-word Inv-loop μ-loop
 add-word c =
     let a = c .before .before .before .before .args in
     let k = c .before .before .loop .k in
-    omega (arith, bytes-below (a .s .now) (a .i) k 7 (omega arith), c .byte .ensures, field-below (a .s .now) (8 * (a .i + k)) 8)
+    omega (arith, bytes-below (a .s .now) (a .i) k 7 (omega arith))
 
 add-k : tie.Need-add-k Inv-loop μ-loop
 add-k c = omega arith
@@ -46,7 +49,7 @@ loop-again c =
     let a = c .before .before .before .before .args in
     let k = c .before .before .loop .k in
     let next : 8 * (k + 1) ≡ 8 * k + 8 = omega arith in
-    (omega arith, rw next (joined (a .s .now) (a .i) k 8 (c .before .before .loop .inv .1) (c .byte .ensures)))
+    (omega arith, rw next (joined (a .s .now) (a .i) k 8 (c .before .before .loop .inv .1) (c .byte .ensures .0)))
 
 returns : tie.Need-returns Inv-loop μ-loop
 returns c =
@@ -64,6 +67,7 @@ gather-spec =
     mul-word
     add-byte
     byte-requires
+    cast-word
     add-word
     add-k
     loop-less

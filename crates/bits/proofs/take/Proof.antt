@@ -1,7 +1,8 @@
 -- `bits::take`: the field is cut out of the bytes that hold it, on both ways.
-use Prim.Native.Nat.{_+_, _*_, _/_, _%_, _≤_}
+use Prim.Native.Nat.{_+_, _-_, _*_, _/_, _%_, _≤_}
 use native.Mathlib.Omega.{arith}
 use mathlib.Core.Path.{_∙_}
+use lib.ListN.{length}
 use borrow.Author.Needs.{needs}
 use Rattle.bits.proofs.Bytes.{field-cut}
 use Rattle.bits.proofs.take.Statement.{statement}
@@ -28,11 +29,8 @@ returns c =
     let inside : a .at % 8 + a .width ≤ 64 = omega arith in
     c .cut .ensures ∙ field-cut (a .s .now) (a .at) (a .width) 8 inside (c .before .eight .ensures)
 
-add-count : tie.Need-add-count
-add-count c = search needs
-
-add-count-2 : tie.Need-add-count-2
-add-count-2 c = search needs
+sub-count : tie.Need-sub-count
+sub-count c = search needs
 
 gather-requires : tie.Need-gather-requires
 gather-requires c κs = search needs
@@ -52,7 +50,7 @@ cut-requires-2 c κs = search needs
 returns-2 : tie.Need-returns-2
 returns-2 c =
     let a = c .before .before .before .before .args in
-    let count = (a .at % 8 + a .width + 7) / 8 in
+    let count = length (a .s .now) - a .at / 8 in
     let inside : a .at % 8 + a .width ≤ 8 * count = omega arith in
     c .cut2 .ensures ∙ field-cut (a .s .now) (a .at) (a .width) count inside (c .before .gather .ensures)
 
@@ -66,8 +64,7 @@ take-spec =
     sub-cut-2
     cut-requires
     returns
-    add-count
-    add-count-2
+    sub-count
     gather-requires
     mul-cut
     sub-cut-3

@@ -1,0 +1,4 @@
+pub mod Reading
+pub mod Network
+pub mod Fields
+pub mod Answers
