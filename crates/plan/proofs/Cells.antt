@@ -117,7 +117,8 @@ module _ (N : Network) (q : Query) (asked : Askable N q) where
       legs : length plan < 64
       legs =
           let (c, m, sc, few, small) = light p t plan (k .stands) in
-          ⊎-elim (λ (l : cost N plan < cost N c). omega (arith, l, m .lighter (N .toll))) (λ (l : (cost N plan ≡ cost N c) × (length plan ≤ length c)). omega (arith, l .1, few))
+          ⊎-elim (λ (l : cost N plan < cost N c). omega (arith, m .lighter (N .toll)))
+          (λ (l : (cost N plan ≡ cost N c) × (length plan ≤ length c)). omega (arith, l .1, few))
           (k .least c sc)
 
       bound : (other : List Ride) → Stands N q p t other → 64 * cost N plan + length plan ≤ total (weight N) other

@@ -6,18 +6,19 @@ use native.Mathlib.Decide.{ℕ-discrete}
 use mathlib.Core.Path.{_≡_}
 use mathlib.Core.Logic.{_≢_}
 use mathlib.Core.List.{List}
-use lib.Dec.{T}
-use Rattle.plan.specs.Network.{Minute, Network, Query, Askable, Within}
+use Rattle.plan.specs.Network.{Minute, Network, Query, Askable, Within, Leaves}
 use Rattle.plan.specs.Plan.{Ride, total, Stands}
 use Rattle.plan.specs.Table.{noPlan, weight, MinuteTable}
+use Rattle.plan.proofs.Standing.{at-start, at-source, at-target}
 use Rattle.plan.proofs.Certificate.{Carries, certificate}
 use Rattle.plan.proofs.Cells.{Attained, attained-start, attained-wait, attained-ride, Least, light, least-cell, cell-least, least-largest}
 
--- The cells obey the rules: 0 at the start at earliest, no rise by waiting, and no cell above what a leg gives. (`noPlan` plus anything is not below `noPlan`.)
+-- The cells obey the rules: 0 at the start at earliest, no rise by waiting, and no cell above what a leg gives.
+-- (`noPlan` plus anything is not below a cell, so nothing is asked about it.)
 pub record ObeysCells (N : Network) (q : Query) (c : ℕ → Minute → ℕ) : Type 0 where
   pub starts : c (q .start) (q .earliest) ≡ 0
   pub waits : (p : ℕ) (t u : Minute) → p < N .places → q .earliest ≤ t → t ≤ u → u ≤ q .latest → c p u ≤ c p t
-  pub rides : (l : ℕ) (d : Minute) → l < N .legs → T (N .goes l d) → q .earliest ≤ d → d + N .time l ≤ q .latest
+  pub rides : (l : ℕ) (d : Minute) → Leaves N q l d
       → c (N .target l) (d + N .time l) ≤ c (N .source l) d + weight N l d
 
 -- Every cell that is not `noPlan` is the weight of a plan.
@@ -30,8 +31,8 @@ module _ (N : Network) (q : Query) (asked : Askable N q) (c : ℕ → Minute →
   cells-carry o = record {
     starts = (asked .home, omega (arith, o .starts));
     waits = λ p t u x early h late v. (v .0, omega (arith, v .1, o .waits p t u (v .0) early h late));
-    rides = λ l d x known goes early late v.
-        (asked .ranges .targets l known, omega (arith, v .1, o .rides l d known goes early late));
+    rides = λ l d x go v.
+        (asked .ranges .targets l (go .known), omega (arith, v .1, o .rides l d go));
   }
 
   -- no cell is above the weight of a plan that stands there
@@ -76,28 +77,29 @@ module _ (N : Network) (q : Query) (asked : Askable N q) (c : ℕ → Minute →
 
   pub table-obeys : MinuteTable N q c → ObeysCells N q c
   table-obeys m = record {
-    starts = omega (arith, least-below m (q .start) (q .earliest) 0 (record { place = asked .home; early = omega arith; late = asked .window }) (attained-start N q (q .earliest) (omega arith)));
+    starts = omega (arith, least-below m (q .start) (q .earliest) 0 (at-start N q asked) (attained-start N q (q .earliest) (omega arith)));
     waits = λ p t u hp early h late. wait p t u hp early h late (ℕ-discrete (c p t) noPlan);
-    rides = λ l d known goes early late. ride l d known goes early late (ℕ-discrete (c (N .source l) d) noPlan);
+    rides = λ l d go. ride l d go (ℕ-discrete (c (N .source l) d) noPlan);
   }
     where
       wait : (p : ℕ) (t u : Minute) → p < N .places → q .earliest ≤ t → t ≤ u → u ≤ q .latest → Dec (c p t ≡ noPlan) → c p u ≤ c p t
-      wait p t u hp early h late (yes e) = omega (arith, e, least-most p u (c p u) (table-least m p u (record { place = hp; early = omega arith; late = late })))
+      wait p t u hp early h late (yes e) =
+          omega (arith, e, least-most p u (c p u) (table-least m p u (record { place = hp; early = omega arith; late = late })))
       wait p t u hp early h late (no ne) =
           least-below m p u (c p t) (record { place = hp; early = omega arith; late = late })
           (attained-wait N q p t u (c p t) h (table-attained m p t (record { place = hp; early = early; late = omega arith }) ne))
 
-      ride : (l : ℕ) (d : Minute) → l < N .legs → T (N .goes l d) → q .earliest ≤ d → d + N .time l ≤ q .latest
+      ride : (l : ℕ) (d : Minute) → Leaves N q l d
           → Dec (c (N .source l) d ≡ noPlan)
           → c (N .target l) (d + N .time l) ≤ c (N .source l) d + weight N l d
-      ride l d known goes early late (yes e) =
+      ride l d go (yes e) =
           omega (
             arith,
             e,
             least-most (N .target l) (d + N .time l) (c (N .target l) (d + N .time l))
-                (table-least m (N .target l) (d + N .time l) (record { place = asked .ranges .targets l known; early = omega arith; late = late })),
+                (table-least m (N .target l) (d + N .time l) (at-target N q asked l d go)),
           )
-      ride l d known goes early late (no ne) =
-          least-below m (N .target l) (d + N .time l) (c (N .source l) d + weight N l d) (record { place = asked .ranges .targets l known; early = omega arith; late = late })
-          (attained-ride N q l d (c (N .source l) d) known goes
-          (table-attained m (N .source l) d (record { place = asked .ranges .sources l known; early = early; late = omega arith }) ne))
+      ride l d go (no ne) =
+          least-below m (N .target l) (d + N .time l) (c (N .source l) d + weight N l d) (at-target N q asked l d go)
+          (attained-ride N q l d (c (N .source l) d) (go .known) (go .goes)
+          (table-attained m (N .source l) d (at-source N q asked l d go) ne))

@@ -1,11 +1,11 @@
 -- What the table's code keeps as it lowers cells: each is the weight of a plan. The code itself need not speak of plans. Assumes nothing.
-use Prim.Native.Nat.{ℕ, _+_, _≤_, _<_}
+use Prim.Native.Nat.{ℕ, _+_, _≤_}
 use native.Mathlib.Omega.{arith}
 use mathlib.Core.Path.{_≡_, sym, subst}
-use mathlib.Core.Logic.{_≢_, _⊎_, inl, inr}
-use lib.Dec.{T}
-use Rattle.plan.specs.Network.{Minute, Network, InRange, Query, Within}
+use mathlib.Core.Logic.{_⊎_, inl, inr}
+use Rattle.plan.specs.Network.{Minute, Network, Query, Askable, Within, Leaves}
 use Rattle.plan.specs.Table.{noPlan, weight}
+use Rattle.plan.proofs.Standing.{at-source}
 use Rattle.plan.proofs.Cells.{Attained, attained-start, attained-wait, attained-ride}
 use Rattle.plan.proofs.Exact.{AttainedCells}
 
@@ -20,10 +20,8 @@ pub record Waited (q : Query) (c : ℕ → Minute → ℕ) (p : ℕ) (t : Minute
 pub record Ridden (N : Network) (q : Query) (c : ℕ → Minute → ℕ) (p : ℕ) (t : Minute) (v : ℕ) : Type 0 where
   pub leg : ℕ
   pub leave : Minute
-  pub known : leg < N .legs
-  pub goes : T (N .goes leg leave)
+  pub leaves : Leaves N q leg leave
   pub reaches : N .target leg ≡ p
-  pub early : q .earliest ≤ leave
   pub arrives : leave + N .time leg ≤ t
   pub cell : v ≡ c (N .source leg) leave + weight N leg leave
 
@@ -32,7 +30,7 @@ abbrev pub Lowered : Network → Query → (ℕ → Minute → ℕ) → (ℕ →
 Lowered N q c c′ =
     (p : ℕ) (t : Minute) → Within N q p t → (c′ p t ≤ noPlan) × (Waited q c p t (c′ p t) ⊎ Ridden N q c p t (c′ p t))
 
-module _ (N : Network) (q : Query) (ok : InRange N) where
+module _ (N : Network) (q : Query) (asked : Askable N q) where
   -- the table at the outset: 0 in the start's row, and no plan elsewhere
   pub outset-attained : (c : ℕ → Minute → ℕ)
       → ((p : ℕ) (t : Minute) → Within N q p t → ((p ≡ q .start) × (c p t ≡ 0)) ⊎ (c p t ≡ noPlan))
@@ -57,14 +55,9 @@ module _ (N : Network) (q : Query) (ok : InRange N) where
           (λ e. n (omega (arith, w .cell, e)))))
       at most (inr r) =
           let before =
-          a (N .source (r .leg)) (r .leave)
-          (record {
-            place = ok .sources (r .leg) (r .known);
-            early = r .early;
-            late = omega (arith, r .arrives, win .late);
-          })
+          a (N .source (r .leg)) (r .leave) (at-source N q asked (r .leg) (r .leave) (r .leaves))
           (omega (arith, r .cell, most, n)) in
-          let ride = attained-ride N q (r .leg) (r .leave) (c (N .source (r .leg)) (r .leave)) (r .known) (r .goes) before in
+          let ride = attained-ride N q (r .leg) (r .leave) (c (N .source (r .leg)) (r .leave)) (r .leaves .known) (r .leaves .goes) before in
           attained-wait N q p (r .leave + N .time (r .leg)) t (c′ p t) (r .arrives)
           (subst (λ (v : ℕ). Attained N q p (r .leave + N .time (r .leg)) v) (sym (r .cell))
           (subst

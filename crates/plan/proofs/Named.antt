@@ -11,10 +11,10 @@ use Rattle.plan.specs.Network.{Minute, Network, Query, Askable, Within}
 use Rattle.plan.specs.Plan.{Ride, arrival, cost, Stands, Feasible}
 use Rattle.plan.specs.Tie.{Upto, Named}
 use Rattle.plan.specs.Table.{noPlan, MinuteTable}
-use Rattle.plan.proofs.Standing.{stands-wait, stands-end, from-earliest}
-use Rattle.plan.proofs.Cells.{total-weight, light}
+use Rattle.plan.proofs.Standing.{at-end, stands-wait, stands-end, from-earliest}
+use Rattle.plan.proofs.Cells.{total-weight, cost-bound, light}
 use Rattle.plan.proofs.Exact.{table-least, table-obeys}
-use Rattle.plan.proofs.Order.{less-then}
+use Rattle.plan.proofs.Order.{less-then, named-short}
 use Rattle.plan.proofs.Walk.{Best, shown}
 
 module _ (N : Network) (q : Query) (asked : Askable N q) (c : ℕ → Minute → ℕ) (m : MinuteTable N q c) where
@@ -27,7 +27,7 @@ module _ (N : Network) (q : Query) (asked : Askable N q) (c : ℕ → Minute →
 
   -- no plan: the end's cell at latest is `noPlan`
   pub none-feasible : c (q .end) (q .latest) ≡ noPlan → (plan : List Ride) → Feasible N q plan → ⊥
-  none-feasible e plan f = table-least N q asked c m (q .end) (q .latest) (record { place = asked .goal; early = asked .window; late = omega arith }) .there plan f e
+  none-feasible e plan f = table-least N q asked c m (q .end) (q .latest) (at-end N q asked) .there plan f e
 
   -- THE WALK'S PLAN IS THE NAMED PLAN, where a is the earliest minute with the least cost
   pub best-named : (a : Minute) → Within N q (q .end) a
@@ -46,7 +46,7 @@ module _ (N : Network) (q : Query) (asked : Askable N q) (c : ℕ → Minute →
       at : (other : List Ride) → Feasible N q other → Upto N q plan other
       at other f =
           less-then _ _
-          (omega (arith, whole .1, cost-shown (q .end) (q .latest) (record { place = asked .goal; early = asked .window; late = omega arith }) other f)) λ dear.
+          (omega (arith, whole .1, cost-shown (q .end) (q .latest) (at-end N q asked) other f)) λ dear.
           let soon : a ≤ arrival N q other = not-before dear (decLe a (arrival N q other)) in
           less-then _ _ (omega (arith, b .stands .by)) λ when.
           let stands : Stands N q (q .end) a other =
@@ -65,3 +65,12 @@ module _ (N : Network) (q : Query) (asked : Askable N q) (c : ℕ → Minute →
               let less = cost-shown (q .end) (arrival N q other) (record { place = asked .goal; early = start; late = f .by }) other
               (stands-end N q (q .end) (q .latest) other f) in
               absurd (first (arrival N q other) start (omega arith) (omega (arith, less, wait, whole .1)))
+
+-- THE NAMED PLAN FITS a plan file: at most 63 legs, and a cost of at most 63 × 65,535 cents
+pub named-fits : (N : Network) (q : Query) → Askable N q → (plan : List Ride) → Named N q plan
+    → (length plan ≤ 63) × (cost N plan ≤ 4128705)
+named-fits N q asked plan h =
+    let short = named-short N q asked plan h in
+    let few = asked .ranges .few in
+    let bound = cost-bound N q (asked .ranges) plan (h .feasible .runs) in
+    (omega arith, omega arith)

@@ -136,4 +136,6 @@ our-sheet-once N q x y hx hy =
     (λ p l.
     let hp : p < N .places = omega (arith, hx .size) in
     once q (q .earliest) (getD x p []) (getD y p []) (steps-from q (getD x p []) (hx .steps p hp)) (steps-from q (getD y p []) (hy .steps p hp))
-    (λ t early late. least-once N q p t (valueAt x p t) (valueAt y p t) (hx .costs p t (record { place = hp; early = early; late = late })) (hy .costs p t (record { place = hp; early = early; late = late }))))
+    (λ t early late.
+    let win : Within N q p t = record { place = hp; early = early; late = late } in
+    least-once N q p t (valueAt x p t) (valueAt y p t) (hx .costs p t win) (hy .costs p t win)))

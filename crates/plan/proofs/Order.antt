@@ -7,7 +7,7 @@ use mathlib.Core.Logic.{_⊎_, inl, inr, ⊎-elim}
 use mathlib.Core.List.{List, [], _∷_}
 use lib.ListN.{length}
 use Rattle.plan.specs.Network.{Network, Query, Askable}
-use Rattle.plan.specs.Plan.{Ride, arrives, arrival, cost}
+use Rattle.plan.specs.Plan.{Ride, arrives}
 use Rattle.plan.specs.Tie.{Less-then, Back-upto, Upto, Named}
 use Rattle.plan.proofs.Circles.{NoWorse, not-longer, no-worse-stands, cut-short}
 

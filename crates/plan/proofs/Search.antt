@@ -8,7 +8,7 @@ use mathlib.Core.Bool.{Bool, true, false}
 use mathlib.Core.List.{List, [], _∷_, _++_, map, List·Memᴰ, List·Memᴰ·head, List·Memᴰ·tail, List·Memᴰ·cases-cons, List·Memᴰ·not-nil, Memᴰ·append-left, Memᴰ·append-right, Memᴰ·map}
 use lib.Dec.{T}
 use lib.ListN.{length}
-use Rattle.plan.specs.Network.{Minute, Network, Query, Askable, Within}
+use Rattle.plan.specs.Network.{Minute, Network, Query, Askable}
 use Rattle.plan.specs.Plan.{Ride, place, arrival, total, Follows, Runs, Stands, Feasible}
 use Rattle.plan.specs.Tie.{Upto, Named}
 use Rattle.plan.specs.Table.{noPlan, weight, Cell, MinuteTable}

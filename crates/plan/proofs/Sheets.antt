@@ -15,7 +15,7 @@ use Rattle.plan.specs.Tie.{Named}
 use Rattle.plan.specs.Table.{noPlan, MinuteTable}
 use Rattle.plan.specs.Sheet.{Step, orElse, value, valueAt, StepsAfter, Steps, AtMost, Obeys, TightFor, LeastCost, OurSheet}
 use Rattle.plan.proofs.Tests.{Is, eqb-is}
-use Rattle.plan.proofs.Standing.{stands-start, stands-ride}
+use Rattle.plan.proofs.Standing.{at-start, at-end, at-source, at-target, stands-start, stands-ride}
 use Rattle.plan.proofs.Values.{Falls}
 use Rattle.plan.proofs.Order.{less-then-le}
 use Rattle.plan.proofs.Cells.{Attained, Least}
@@ -110,16 +110,16 @@ module _ (N : Network) (q : Query) (asked : Askable N q)
   pub least-obeys : Obeys N q v
   least-obeys = record {
     a = zero-at-most (v (q .start) (q .earliest))
-        (least-none N q (q .start) (q .earliest) (v (q .start) (q .earliest)) (costs (q .start) (q .earliest) (record { place = asked .home; early = omega arith; late = asked .window })) []
+        (least-none N q (q .start) (q .earliest) (v (q .start) (q .earliest)) (costs (q .start) (q .earliest) (at-start N q asked)) []
         (stands-start N q (q .earliest) (omega arith)));
-    b = λ l d x known goes early late e.
-        let paid = subst (λ (o : Option Cents). LeastCost N q (N .source l) d o) e (costs (N .source l) d (record { place = asked .ranges .sources l known; early = early; late = omega arith })) in
+    b = λ l d x go e.
+        let paid = subst (λ (o : Option Cents). LeastCost N q (N .source l) d o) e (costs (N .source l) d (at-source N q asked l d go)) in
         let (plan, s, same) = paid .0 in
         let arrive =
         least-none N q (N .target l) (d + N .time l) (v (N .target l) (d + N .time l))
-        (costs (N .target l) (d + N .time l) (record { place = asked .ranges .targets l known; early = omega arith; late = late }))
+        (costs (N .target l) (d + N .time l) (at-target N q asked l d go))
         (record { leg = l; leave = d } ∷ plan)
-        (stands-ride N q l d known goes plan s) in
+        (stands-ride N q l d (go .known) (go .goes) plan s) in
         subst (λ (y : Cents). AtMost (v (N .target l) (d + N .time l)) (y + N .toll l d)) same arrive;
   }
 
@@ -127,7 +127,7 @@ module _ (N : Network) (q : Query) (asked : Askable N q)
   pub least-tight : (plan : List Ride) → Feasible N q plan
       → ((other : List Ride) → Feasible N q other → cost N plan ≤ cost N other)
       → TightFor q v (some (cost N plan))
-  least-tight plan f least = at (v (q .end) (q .latest)) (costs (q .end) (q .latest) (record { place = asked .goal; early = asked .window; late = omega arith }))
+  least-tight plan f least = at (v (q .end) (q .latest)) (costs (q .end) (q .latest) (at-end N q asked))
     where
       at : (o : Option Cents) → LeastCost N q (q .end) (q .latest) o → o ≡ some (cost N plan)
       at none h = absurd (h plan f)
@@ -137,7 +137,7 @@ module _ (N : Network) (q : Query) (asked : Askable N q)
           ap some e
 
   pub none-tight : ((plan : List Ride) → Feasible N q plan → ⊥) → TightFor q v none
-  none-tight never = at (v (q .end) (q .latest)) (costs (q .end) (q .latest) (record { place = asked .goal; early = asked .window; late = omega arith }))
+  none-tight never = at (v (q .end) (q .latest)) (costs (q .end) (q .latest) (at-end N q asked))
     where
       at : (o : Option Cents) → LeastCost N q (q .end) (q .latest) o → o ≡ none
       at none h = refl

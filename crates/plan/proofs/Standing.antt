@@ -4,8 +4,26 @@ use native.Mathlib.Omega.{arith}
 use mathlib.Core.Path.{refl, sym}
 use mathlib.Core.List.{List, [], _∷_}
 use lib.Dec.{T}
-use Rattle.plan.specs.Network.{Minute, Network, Query}
+use Rattle.plan.specs.Network.{Minute, Network, Query, Askable, Within, Leaves}
 use Rattle.plan.specs.Plan.{Ride, arrival, Runs, Stands}
+
+-- ---- places and minutes of the window
+
+module _ (N : Network) (q : Query) (asked : Askable N q) where
+  pub at-start : Within N q (q .start) (q .earliest)
+  at-start = record { place = asked .home; early = omega arith; late = asked .window }
+
+  pub at-end : Within N q (q .end) (q .latest)
+  at-end = record { place = asked .goal; early = asked .window; late = omega arith }
+
+  -- where and when a leg leaves, and where and when it arrives
+  pub at-source : (l : ℕ) (d : Minute) → Leaves N q l d → Within N q (N .source l) d
+  at-source l d go = record { place = asked .ranges .sources l (go .known); early = go .early; late = omega (arith, go .late) }
+
+  pub at-target : (l : ℕ) (d : Minute) → Leaves N q l d → Within N q (N .target l) (d + N .time l)
+  at-target l d go = record { place = asked .ranges .targets l (go .known); early = omega (arith, go .early); late = go .late }
+
+-- ---- plans that stand
 
 module _ (N : Network) (q : Query) where
   -- who stands at a leg's place by d may leave at d
@@ -37,3 +55,13 @@ module _ (N : Network) (q : Query) where
   -- the rides before the last one stand where it leaves from, when it leaves
   pub before-ride : (r : Ride) (rs : List Ride) → Runs N q (r ∷ rs) → Stands N q (N .source (r .leg)) (r .leave) rs
   before-ride r rs h = record { runs = h .1; there = sym (h .0 .here); by = omega (arith, h .0 .after) }
+
+  -- and it leaves inside the window
+  pub last-leaves : (p : ℕ) (t : Minute) (r : Ride) (rs : List Ride) → Stands N q p t (r ∷ rs) → t ≤ q .latest
+      → Leaves N q (r .leg) (r .leave)
+  last-leaves p t r rs s late = record {
+    known = s .runs .0 .known;
+    goes = s .runs .0 .goes;
+    early = omega (arith, s .runs .0 .after, from-earliest rs (s .runs .1));
+    late = omega (arith, s .by);
+  }

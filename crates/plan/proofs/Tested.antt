@@ -12,6 +12,7 @@ use Rattle.plan.specs.Plan.{Ride, arrives, arrival}
 use Rattle.plan.specs.Tie.{Named}
 use Rattle.plan.specs.Table.{noPlan, weight, MinuteTable}
 use Rattle.plan.proofs.Tests.{and-left, and-right, and-both, or-cases, unless-not, eq-eqb, not-eqb, everyFrom, every-at, anyBelow, any-at, at-any}
+use Rattle.plan.proofs.Standing.{at-source}
 use Rattle.plan.proofs.Cells.{Attained, attained-start, attained-wait, attained-ride}
 use Rattle.plan.proofs.Exact.{ObeysCells, AttainedCells, exact, table-obeys}
 use Rattle.plan.proofs.Walk.{Fits, Best, FirstAt, first-of-falling, best-stop, best-wait, best-ride}
@@ -24,17 +25,20 @@ module _ (N : Network) (q : Query) (c : ℕ → Minute → ℕ) where
       eqb (N .target l) p && (leb (q .earliest + N .time l) a
       && (N .goes l (a - N .time l) && eqb (c (N .source l) (a - N .time l) + weight N l (a - N .time l)) (c p a)))
 
-  pub test-fits : (p : ℕ) (a : Minute) (l : ℕ) → l < N .legs → T (fits? p a l) → Fits N q c p a l (a - N .time l)
-  test-fits p a l known h =
+  pub test-fits : (p : ℕ) (a : Minute) (l : ℕ) → l < N .legs → a ≤ q .latest → T (fits? p a l) → Fits N q c p a l (a - N .time l)
+  test-fits p a l known late h =
       let rest = and-right (eqb (N .target l) p) _ h in
       let early = leb→le (q .earliest + N .time l) a (and-left (leb (q .earliest + N .time l) a) _ rest) in
       let rest₂ = and-right (leb (q .earliest + N .time l) a) _ rest in
       record {
-        known = known;
+        leaves = record {
+          known = known;
+          goes = and-left (N .goes l (a - N .time l)) _ rest₂;
+          early = omega arith;
+          late = omega arith;
+        };
         reaches = eqb→eq (N .target l) p (and-left (eqb (N .target l) p) _ h);
         arrives = omega arith;
-        early = omega arith;
-        goes = and-left (N .goes l (a - N .time l)) _ rest₂;
         explains = eqb→eq _ _ (and-right (N .goes l (a - N .time l)) _ rest₂);
       }
 
@@ -42,8 +46,8 @@ module _ (N : Network) (q : Query) (c : ℕ → Minute → ℕ) where
   fits-test p a l d f =
       let e : a - N .time l ≡ d = omega (arith, f .arrives) in
       and-both (eqb (N .target l) p) _ (eq-eqb (N .target l) p (f .reaches))
-      (and-both (leb (q .earliest + N .time l) a) _ (le→leb (q .earliest + N .time l) a (omega (arith, f .arrives, f .early)))
-      (rw e (and-both (N .goes l d) _ (f .goes) (eq-eqb _ _ (f .explains)))))
+      (and-both (leb (q .earliest + N .time l) a) _ (le→leb (q .earliest + N .time l) a (omega (arith, f .arrives, f .leaves .early)))
+      (rw e (and-both (N .goes l d) _ (f .leaves .goes) (eq-eqb _ _ (f .explains)))))
 
   -- the cell of p at t is `noPlan`, or 0 at the start, or the one before it, or a leg fits it
   abbrev grounded? : ℕ → Minute → Bool
@@ -118,11 +122,11 @@ module _ (N : Network) (q : Query) (c : ℕ → Minute → ℕ) where
 
         ridden : (l : ℕ) → l < N .legs → T (fits? p t l) → Attained N q p t (c p t)
         ridden l known f =
-            let fit = test-fits p t l known f in
+            let fit = test-fits p t l known (win .late) f in
             let before =
-            ih (N .source l) (t - N .time l) (record { place = asked .ranges .sources l known; early = fit .early; late = omega arith }) (omega (arith, fit .explains))
+            ih (N .source l) (t - N .time l) (at-source N q asked l (t - N .time l) (fit .leaves)) (omega (arith, fit .explains))
             (omega (arith, fit .explains)) in
-            let after = attained-ride N q l (t - N .time l) (c (N .source l) (t - N .time l)) known (fit .goes) before in
+            let after = attained-ride N q l (t - N .time l) (c (N .source l) (t - N .time l)) known (fit .leaves .goes) before in
             subst (λ (v : ℕ). Attained N q p t v) (fit .explains)
             (subst (λ (x : ℕ). Attained N q x t (c (N .source l) (t - N .time l) + weight N l (t - N .time l))) (fit .reaches)
             (subst (λ (x : ℕ). Attained N q (N .target l) x (c (N .source l) (t - N .time l) + weight N l (t - N .time l))) (fit .arrives)
@@ -178,14 +182,14 @@ module _ (N : Network) (q : Query) (c : ℕ → Minute → ℕ) where
       waits = λ p t u hp early l late.
           let e : t + (u - t) ≡ u = omega arith in
           omega (arith, test-waits (u - t) p t hp early (omega arith), ap (c p) e);
-      rides = λ l d known goes early late.
+      rides = λ l d go.
           leb→le (c (N .target l) (d + N .time l)) (c (N .source l) d + weight N l d)
           (unless-not (N .goes l d && leb (d + N .time l) (q .latest)) _
           (every-at (N .legs) 0 (λ l. obeyed? d l)
           (and-right (everyFrom (N .places) 0 (λ p. grounded? p d && settled? p d)) (everyFrom (N .legs) 0 (λ l. obeyed? d l))
-          (column-at d early (omega arith)))
-          l (omega arith) (omega arith))
-          (and-both (N .goes l d) _ goes (le→leb (d + N .time l) (q .latest) late)));
+          (column-at d (go .early) (omega (arith, go .late))))
+          l (omega arith) (omega (arith, go .known)))
+          (and-both (N .goes l d) _ (go .goes) (le→leb (d + N .time l) (q .latest) (go .late))));
     }
 
     -- A TABLE THAT PASSES is a minute table
@@ -244,15 +248,17 @@ module _ (N : Network) (q : Query) (c : ℕ → Minute → ℕ) where
         let known = ltb→lt (r .leg) (N .legs) (and-left (ltb (r .leg) (N .legs)) _ this) in
         let when : arrives N r - N .time (r .leg) ≡ r .leave = omega arith in
         let fit : Fits N q c p (arrives N r) (r .leg) (r .leave) =
-        rw when at (test-fits p (arrives N r) (r .leg) known (and-right (ltb (r .leg) (N .legs)) _ this)) in
+        rw when at (test-fits p (arrives N r) (r .leg) known (omega (arith, win .late)) (and-right (ltb (r .leg) (N .legs)) _ this)) in
         best-wait N q c p (arrives N r) d (r ∷ rs) soon same
-        (best-ride N q asked c m p (arrives N r) (record { place = win .place; early = omega (arith, fit .early); late = omega (arith, win .late) }) first (r .leg) (r .leave) fit
+        (best-ride N q asked c m p (arrives N r)
+        (record { place = win .place; early = omega (arith, fit .leaves .early); late = omega (arith, win .late) })
+        first (r .leg) (r .leave) fit
         (λ l′ d′ low f′.
         T-not (anyBelow (r .leg) (fits? p (arrives N r)))
         (and-right (ltb (r .leg) (N .legs) && fits? p (arrives N r) (r .leg)) _ leg)
         (at-any (r .leg) (fits? p (arrives N r)) l′ low (fits-test p (arrives N r) l′ d′ f′)))
         rs
-        (test-best rs (N .source (r .leg)) (r .leave) (record { place = asked .ranges .sources (r .leg) known; early = fit .early; late = omega arith }) before))
+        (test-best rs (N .source (r .leg)) (r .leave) (at-source N q asked (r .leg) (r .leave) (fit .leaves)) before))
 
     -- A PLAN THAT PASSES is the named plan
     pub test-named : (plan : List Ride) → T (named? plan) → Named N q plan

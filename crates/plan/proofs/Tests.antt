@@ -54,7 +54,9 @@ everyFrom (suc n) a f = f a && everyFrom n (suc a) f
 pub every-at : (n a : ℕ) (f : ℕ → Bool) → T (everyFrom n a f) → (k : ℕ) → a ≤ k → k < a + n → T (f k)
 unfolding everyFrom
 every-at zero a f h k low high = absurd (omega arith)
-every-at (suc n) a f h k low high = at (ℕ-discrete a k) (λ (l : suc a ≤ k). every-at n (suc a) f (and-right (f a) (everyFrom n (suc a) f) h) k l (omega arith))
+every-at (suc n) a f h k low high =
+    at (ℕ-discrete a k)
+    (λ (l : suc a ≤ k). every-at n (suc a) f (and-right (f a) (everyFrom n (suc a) f) h) k l (omega arith))
   where
     at : Dec (a ≡ k) → (suc a ≤ k → T (f k)) → T (f k)
     at (yes e) ih = subst (λ (x : ℕ). T (f x)) e (and-left (f a) (everyFrom n (suc a) f) h)

@@ -8,7 +8,7 @@ use mathlib.Core.List.{List, [], _∷_}
 use lib.Dec.{T, leb, ltb, eqb, leb→le, ltb→lt, eqb→eq, lit<, lit≤}
 use lib.ListN.{length, getD}
 use Rattle.leg.specs.Toll.{either, tollOfFirst}
-use Rattle.plan.specs.Network.{Minute, Cents, Network, Query, Askable, Within}
+use Rattle.plan.specs.Network.{Minute, Cents, Network, Query, Askable}
 use Rattle.plan.specs.Table.{MinuteTable}
 use Rattle.plan.specs.Sheet.{Step, valueAt, StepsAfter, Steps, LeastCost, OurSheet}
 use Rattle.plan.specs.Trial.{trial, sheetQuery, sheet}

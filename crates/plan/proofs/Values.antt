@@ -1,11 +1,10 @@
 -- What the certificate says of values that obey rules (a) and (b): the gate's two halves. Assumes nothing.
-use Prim.Native.Nat.{ℕ, _+_, _≤_, _<_}
+use Prim.Native.Nat.{ℕ, _+_, _≤_}
 use native.Mathlib.Omega.{arith}
 use mathlib.Core.Path.{_≡_, refl, subst}
 use mathlib.Core.List.{List}
-use lib.Dec.{T}
 use mathlib.Core.Option.{Option, none, some}
-use Rattle.plan.specs.Network.{Minute, Cents, Network, Query}
+use Rattle.plan.specs.Network.{Minute, Cents, Network, Query, Leaves}
 use Rattle.plan.specs.Plan.{Ride, cost, Stands, Feasible}
 use Rattle.plan.specs.Sheet.{AtMost, Obeys, TightFor}
 use Rattle.plan.proofs.Certificate.{Carries, certificate}
@@ -29,7 +28,7 @@ module _ (N : Network) (q : Query) (value : ℕ → Minute → Option Cents) (o 
   values-carry = record {
     starts = rw (o .a) (omega arith);
     waits = λ p t u x early h late v. at p t u x early h late (at-most-value (value p t) x v);
-    rides = λ l d x known goes early late v. ride l d x known goes early late (at-most-value (value (N .source l) d) x v);
+    rides = λ l d x go v. ride l d x go (at-most-value (value (N .source l) d) x v);
   }
     where
       at : (p : ℕ) (t u : Minute) (x : Cents) → q .earliest ≤ t → t ≤ u → u ≤ q .latest
@@ -37,12 +36,12 @@ module _ (N : Network) (q : Query) (value : ℕ → Minute → Option Cents) (o 
           → AtMost (value p u) x
       at p t u x early h late (y, e, le) = at-most-more (value p u) y x le (falls p t u y early h late e)
 
-      ride : (l : ℕ) (d : Minute) (x : Cents) → l < N .legs → T (N .goes l d) → q .earliest ≤ d → d + N .time l ≤ q .latest
+      ride : (l : ℕ) (d : Minute) (x : Cents) → Leaves N q l d
           → (y : Cents) × (value (N .source l) d ≡ some y) × (y ≤ x)
           → AtMost (value (N .target l) (d + N .time l)) (x + N .toll l d)
-      ride l d x known goes early late (y, e, le) =
+      ride l d x go (y, e, le) =
           at-most-more (value (N .target l) (d + N .time l)) (y + N .toll l d) (x + N .toll l d) (omega arith)
-          (o .b l d y known goes early late e)
+          (o .b l d y go e)
 
   -- such values are never above the cost of a plan that stands at the place by that minute
   pub values-bound : (plan : List Ride) (p : ℕ) (t : Minute) → Stands N q p t plan → t ≤ q .latest → AtMost (value p t) (cost N plan)

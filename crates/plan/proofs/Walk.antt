@@ -9,24 +9,21 @@ use native.Mathlib.Decide.{ℕ-discrete, decLt, decLe}
 use mathlib.Core.Path.{_≡_, sym, ap, _∙_, subst}
 use mathlib.Core.Logic.{_≢_, _⊎_, inl, inr}
 use mathlib.Core.List.{List, [], _∷_}
-use lib.Dec.{T}
 use lib.ListN.{length}
-use Rattle.plan.specs.Network.{Minute, Network, Query, Askable, Within}
+use Rattle.plan.specs.Network.{Minute, Network, Query, Askable, Within, Leaves}
 use Rattle.plan.specs.Plan.{Ride, arrives, total, cost, Stands}
 use Rattle.plan.specs.Tie.{Back-upto}
 use Rattle.plan.specs.Table.{noPlan, weight, MinuteTable}
-use Rattle.plan.proofs.Standing.{stands-start, stands-wait, stands-ride, stands-end, from-earliest, before-ride}
+use Rattle.plan.proofs.Standing.{at-source, stands-start, stands-wait, stands-ride, stands-end, before-ride, last-leaves}
 use Rattle.plan.proofs.Cells.{Attained, total-weight, light}
 use Rattle.plan.proofs.Exact.{table-least, table-obeys, least-most}
 use Rattle.plan.proofs.Order.{less-then}
 
 -- The leg l, left for at d, fits the cell of p at the minute a: it arrives there then, and with the cell it leaves from gives this cell.
 pub record Fits (N : Network) (q : Query) (c : ℕ → Minute → ℕ) (p : ℕ) (a : Minute) (l : ℕ) (d : Minute) : Type 0 where
-  pub known : l < N .legs
+  pub leaves : Leaves N q l d
   pub reaches : N .target l ≡ p
   pub arrives : d + N .time l ≡ a
-  pub early : q .earliest ≤ d
-  pub goes : T (N .goes l d)
   pub explains : c (N .source l) d + weight N l d ≡ c p a
 
 -- Of all plans that stand at p by t and weigh what the cell says, the first by the tie rule's last part.
@@ -54,7 +51,7 @@ fits-stands : (N : Network) (q : Query) (c : ℕ → Minute → ℕ) (p : ℕ) (
 fits-stands N q c p a l d fit plan s =
     let ride : List Ride = record { leg = l; leave = d } ∷ plan in
     subst (λ (x : ℕ). Stands N q x a ride) (fit .reaches)
-    (subst (λ (x : ℕ). Stands N q (N .target l) x ride) (fit .arrives) (stands-ride N q l d (fit .known) (fit .goes) plan s))
+    (subst (λ (x : ℕ). Stands N q (N .target l) x ride) (fit .arrives) (stands-ride N q l d (fit .leaves .known) (fit .leaves .goes) plan s))
 
 module _ (N : Network) (q : Query) (c : ℕ → Minute → ℕ) where
   -- STOP: at the start, where the cell is 0, with no legs
@@ -99,25 +96,19 @@ module _ (N : Network) (q : Query) (asked : Askable N q) (c : ℕ → Minute →
       → Fits N q c p a (r .leg) (r .leave) × (total (weight N) rs ≡ c (N .source (r .leg)) (r .leave))
   last-fits p a win first r rs s e =
       let obeys = table-obeys N q asked c m in
-      let follows = s .runs .0 in
-      let early : q .earliest ≤ r .leave = omega (arith, from-earliest N q rs (s .runs .1), follows .after) in
-      let in-time : arrives N r ≤ a = omega (arith, s .by) in
-      let bound =
-      table-least N q asked c m p (arrives N r) (record { place = win .place; early = omega arith; late = omega (arith, win .late) }) .bound (r ∷ rs) (stands-end N q p a (r ∷ rs) s) in
-      let wait = obeys .waits p (arrives N r) a (win .place) (omega arith) in-time (win .late) in
-      let punctual : arrives N r ≡ a = at (ℕ-discrete (arrives N r) a) (omega arith) (omega (arith, bound, e, wait)) in-time in
+      let go = last-leaves N q p a r rs s (win .late) in
+      let there-then : Within N q p (arrives N r) =
+      record { place = win .place; early = omega (arith, go .early); late = go .late } in
+      let bound = table-least N q asked c m p (arrives N r) there-then .bound (r ∷ rs) (stands-end N q p a (r ∷ rs) s) in
+      let wait = obeys .waits p (arrives N r) a (win .place) (there-then .early) (s .by) (win .late) in
+      let punctual : arrives N r ≡ a =
+      at (ℕ-discrete (arrives N r) a) (there-then .early) (omega (arith, bound, e, wait)) (omega (arith, s .by)) in
       let before =
-      table-least N q asked c m (N .source (r .leg)) (r .leave) (record { place = asked .ranges .sources (r .leg) (follows .known); early = early; late = omega arith }) .bound rs (before-ride N q r rs (s .runs)) in
-      let ride = obeys .rides (r .leg) (r .leave) (follows .known) (follows .goes) early (omega arith) in
+      table-least N q asked c m (N .source (r .leg)) (r .leave) (at-source N q asked (r .leg) (r .leave) go)
+      .bound rs (before-ride N q r rs (s .runs)) in
+      let ride = obeys .rides (r .leg) (r .leave) go in
       let there : c (N .target (r .leg)) (arrives N r) ≡ c p a = ap (λ (x : ℕ). c x (arrives N r)) (s .there) ∙ ap (c p) punctual in (
-        record {
-          known = follows .known;
-          reaches = s .there;
-          arrives = punctual;
-          early = early;
-          goes = follows .goes;
-          explains = omega (arith, before, ride, there, e);
-        },
+        record { leaves = go; reaches = s .there; arrives = punctual; explains = omega (arith, before, ride, there, e) },
         omega (arith, before, ride, there, e),
       )
     where
@@ -175,7 +166,7 @@ module _ (N : Network) (q : Query) (asked : Askable N q) (c : ℕ → Minute →
       let most = least-most N q asked c p a (c p a) (table-least N q asked c m p a win) in
       let some : c (N .source l) d ≢ noPlan = omega (arith, most, n, fit .explains) in
       let (rest, s, e) =
-      table-least N q asked c m (N .source l) d (record { place = asked .ranges .sources l (fit .known); early = fit .early; late = omega (arith, fit .arrives) })
+      table-least N q asked c m (N .source l) d (at-source N q asked l d (fit .leaves))
       .attained some in
       let whole =
       shown p a win (record { leg = l; leave = d } ∷ rest) (fits-stands N q c p a l d fit rest s)

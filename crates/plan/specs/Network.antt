@@ -1,6 +1,7 @@
 -- Networks and queries. How a network is written in a file, and how bands give a toll, is no part of this.
-use Prim.Native.Nat.{ℕ, _≤_, _<_}
+use Prim.Native.Nat.{ℕ, _+_, _≤_, _<_}
 use mathlib.Core.Bool.{Bool}
+use lib.Dec.{T}
 
 -- A minute of the clock, or a driving time. Names only: the laws compute with them, and the code's own types keep them apart.
 abbrev pub Minute : Type 0
@@ -46,3 +47,10 @@ pub record Within (N : Network) (q : Query) (p : ℕ) (t : Minute) : Type 0 wher
   pub place : p < N .places
   pub early : q .earliest ≤ t
   pub late : t ≤ q .latest
+
+-- Leg l may be left for at minute d: it goes then, d is not before earliest, and the arrival not after latest.
+pub record Leaves (N : Network) (q : Query) (l : ℕ) (d : Minute) : Type 0 where
+  pub known : l < N .legs
+  pub goes : T (N .goes l d)
+  pub early : q .earliest ≤ d
+  pub late : d + N .time l ≤ q .latest

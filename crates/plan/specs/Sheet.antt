@@ -4,9 +4,9 @@ use mathlib.Core.Path.{_≡_}
 use mathlib.Core.Bool.{cond}
 use mathlib.Core.Option.{Option, none, some}
 use mathlib.Core.List.{List, [], _∷_}
-use lib.Dec.{T, leb}
+use lib.Dec.{leb}
 use lib.ListN.{length, getD}
-use Rattle.plan.specs.Network.{Minute, Cents, Network, Query, Within}
+use Rattle.plan.specs.Network.{Minute, Cents, Network, Query, Within, Leaves}
 use Rattle.plan.specs.Plan.{Ride, cost, Stands}
 
 -- One step of a sheet: from this minute on the place has this cost.
@@ -47,7 +47,7 @@ AtMost (some v) x = v ≤ x
 -- gives the place it goes to a value at the arrival, at most that value plus the toll at d.
 pub record Obeys (N : Network) (q : Query) (value : ℕ → Minute → Option Cents) : Type 0 where
   pub a : value (q .start) (q .earliest) ≡ some 0
-  pub b : (l : ℕ) (d : Minute) (x : Cents) → l < N .legs → T (N .goes l d) → q .earliest ≤ d → d + N .time l ≤ q .latest
+  pub b : (l : ℕ) (d : Minute) (x : Cents) → Leaves N q l d
       → value (N .source l) d ≡ some x
       → AtMost (value (N .target l) (d + N .time l)) (x + N .toll l d)
 
