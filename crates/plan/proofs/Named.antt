@@ -12,10 +12,10 @@ use Rattle.plan.specs.Plan.{Ride, arrival, cost, Stands, Feasible}
 use Rattle.plan.specs.Tie.{Upto, Named}
 use Rattle.plan.specs.Table.{noPlan, MinuteTable}
 use Rattle.plan.proofs.Standing.{at-end, stands-wait, stands-end, from-earliest}
-use Rattle.plan.proofs.Cells.{total-weight, cost-bound, light}
+use Rattle.plan.proofs.Cells.{total-weight, cost-bound, light, least-largest}
 use Rattle.plan.proofs.Exact.{table-least, table-obeys}
 use Rattle.plan.proofs.Order.{less-then, named-short}
-use Rattle.plan.proofs.Walk.{Best, shown}
+use Rattle.plan.proofs.Walk.{Best, FirstAt, shown}
 
 module _ (N : Network) (q : Query) (asked : Askable N q) (c : ℕ → Minute → ℕ) (m : MinuteTable N q c) where
   -- the cost in a cell is at most that of any plan that stands there
@@ -28,6 +28,19 @@ module _ (N : Network) (q : Query) (asked : Askable N q) (c : ℕ → Minute →
   -- no plan: the end's cell at latest is `noPlan`
   pub none-feasible : c (q .end) (q .latest) ≡ noPlan → (plan : List Ride) → Feasible N q plan → ⊥
   none-feasible e plan f = table-least N q asked c m (q .end) (q .latest) (at-end N q asked) .there plan f e
+
+  -- where the cost is that of latest there is a plan, if there is one at latest
+  pub same-cost : (a : Minute) → c (q .end) (q .latest) ≢ noPlan → c (q .end) a / 64 ≡ c (q .end) (q .latest) / 64
+      → c (q .end) a ≢ noPlan
+  same-cost a n same =
+      let most = least-largest N q asked (q .end) (q .latest) (c (q .end) (q .latest)) (table-least N q asked c m (q .end) (q .latest) (at-end N q asked)) n in
+      omega (arith, most, same)
+
+  -- the first minute with the least cost is the first with its cell
+  pub first-cost : (a : Minute) → c (q .end) a / 64 ≡ c (q .end) (q .latest) / 64
+      → ((t : Minute) → q .earliest ≤ t → t < a → c (q .end) t / 64 ≢ c (q .end) (q .latest) / 64)
+      → FirstAt q c (q .end) a
+  first-cost a same first t early before e = first t early before (omega (arith, e, same))
 
   -- THE WALK'S PLAN IS THE NAMED PLAN, where a is the earliest minute with the least cost
   pub best-named : (a : Minute) → Within N q (q .end) a
