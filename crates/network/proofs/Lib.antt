@@ -5,3 +5,4 @@ pub mod Legs
 pub mod Tops
 pub mod Near
 pub mod Fields
+pub mod Accepted
