@@ -17,8 +17,8 @@ use Rattle.write_call.specs.Steps.{Adds}
 pub adds-none : (s : List ℕ) (at : ℕ) → Adds s s at []
 adds-none s at = record { same-length = refl; behind = λ fs e w. rw append-nil w }
 
-pub adds-put : {s t : List ℕ} {at : ℕ} (es : List Entry) → AllFit es → Put s t at (bitsOf es) (joined es) → Adds s t at es
-adds-put es fit put = record { same-length = put .same-length; behind = λ fs e w. written-joined es fit w (rw e put) }
+pub adds-put : {s t : List ℕ} {at v : ℕ} (es : List Entry) → AllFit es → v ≡ joined es → Put s t at (bitsOf es) v → Adds s t at es
+adds-put es fit value put = record { same-length = put .same-length; behind = λ fs e w. written-joined es fit w (rw (e, ← value) put) }
 
 pub adds-then : {a b c : List ℕ} {at : ℕ} (es gs : List Entry) → Adds a b at es → Adds b c (at + bitsOf es) gs → Adds a c at (es ++ gs)
 adds-then {at = at} es gs p q =
@@ -37,14 +37,14 @@ no-bands bs = refl
 pub adds-no-bands : (s : List ℕ) (at : ℕ) (bs : List Band) → Adds s s at (bandsFields 0 bs)
 adds-no-bands s at bs = rw (no-bands bs) (adds-none s at)
 
-pub adds-band : {first s t : List ℕ} {at : ℕ} (k : ℕ) (bs : List Band) → getD bs k noBand .start .0 < 4096 → getD bs k noBand .toll .0 < 65536
-    → Adds first s at (bandsFields k bs) → Put s t (at + 28 * k) 28 (getD bs k noBand .start .0 * 0x1_0000 + getD bs k noBand .toll .0)
+pub adds-band : {first s t : List ℕ} {at v : ℕ} (k : ℕ) (bs : List Band) → getD bs k noBand .start .0 < 4096 → getD bs k noBand .toll .0 < 65536
+    → v ≡ getD bs k noBand .start .0 * 0x1_0000 + getD bs k noBand .toll .0 → Adds first s at (bandsFields k bs) → Put s t (at + 28 * k) 28 v
     → Adds first t at (bandsFields (k + 1) bs)
-adds-band {first} {s} {t} {at} k bs start toll a put =
+adds-band {at = at} {v = v} k bs start toll value a put =
     let es = bandFields (getD bs k noBand) in
-    let value : getD bs k noBand .start .0 * 0x1_0000 + getD bs k noBand .toll .0 ≡ joined es = omega arith in
+    let spelt : v ≡ joined es = omega arith in
     let place : at + 28 * k ≡ at + bitsOf (bandsFields k bs) = omega (arith, bands-bits k bs) in
-    rw (bands-fields-more k bs) (adds-then (bandsFields k bs) es a (adds-put es (start, (toll, tt)) (rw (value, place) at put)))
+    rw (bands-fields-more k bs) (adds-then (bandsFields k bs) es a (adds-put es (start, (toll, tt)) spelt (rw place at put)))
 
 getD-zeros : (n i : ℕ) → _≡_ {A = ℕ} (getD (replicate n 0) i 0) 0
 getD-zeros zero i = refl

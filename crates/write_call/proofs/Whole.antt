@@ -54,19 +54,19 @@ module _ (list : List ℕ) (size : Size) (room : ℕ) (h : Accepted list size ro
       })
 
   -- cleared bytes, the head, then the legs: the file
-  pub accepted-file : (cleared topped out : List ℕ) → cleared ≡ replicate room 0
-      → Put cleared topped 0 25 (0x2_0000 + size .places * 0x400 + size .legs) → LegsPut list (size .places) (size .legs) topped out → length out ≡ room
+  pub accepted-file : {v : ℕ} (cleared topped out : List ℕ) → cleared ≡ replicate room 0
+      → v ≡ 0x2_0000 + size .places * 0x400 + size .legs → Put cleared topped 0 25 v → LegsPut list (size .places) (size .legs) topped out → length out ≡ room
       → FileOf list out
-  accepted-file cleared topped out zeros put legs whole net end e =
+  accepted-file {v} cleared topped out zeros value put legs whole net end e =
       let same : h .net ≡ net = cc (h .read) in
       let p = parts list (h .net) (h .end) (h .read) in
       let sized : size ≡ sizeOf (h .net) = h .sized in
       let top = topFields (size .places) (size .legs) in
       let few = accepted-sizes in
-      let value : 0x2_0000 + size .places * 0x400 + size .legs ≡ joined top = omega arith in
+      let spelt : v ≡ joined top = omega arith in
       let begun : Written top topped =
       written-joined {fs = []} top (omega arith, (omega (arith, few .places-few), (omega (arith, few .legs-few), tt)))
-      (written-cleared room cleared zeros) (rw value at put)
+      (written-cleared room cleared zeros) (rw spelt at put)
       in
       let added = legs (h .net .legs) (p .end) (rw sized (p .read)) in
       rw (← same)

@@ -62,7 +62,7 @@ loop-again c =
     let a = c .before .before .before .before .before .before .before .before .before .before .before .args in
     let l = c .before .before .before .before .before .before .before .before .loop in
     let small = c .before .before .before .before .before .before .before .before .before .before .before .pre .0 .bands-small (l .k) in
-    (omega arith, adds-band (l .k) (a .leg .bands) (small .0) (small .1) (l .inv .1) (c .before .before .put .ensures))
+    (omega arith, adds-band (l .k) (a .leg .bands) (small .0) (small .1) (omega arith) (l .inv .1) (c .before .before .put .ensures))
 
 same-length : tie.Need-same-length Inv-loop μ-loop
 same-length c = c .before .loop .inv .1 .same-length

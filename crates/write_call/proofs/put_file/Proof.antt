@@ -13,7 +13,7 @@ returns c =
     let cleared = c .before .before .before .before .before .before .before .before .before .before .clear in
     let topped = c .before .before .before .before .before .before .put in
     let whole = c .before .before .put-legs in
-    accepted-file (a .list .now) (a .size) (length (a .out .now)) (c .before .before .before .before .before .before .before .before .before .before .before .before .before .before .before .pre) (cleared .last .0) (topped .last .0) (whole .last .1 .1 .0) (cleared .ensures) (topped .ensures)
+    accepted-file (a .list .now) (a .size) (length (a .out .now)) (c .before .before .before .before .before .before .before .before .before .before .before .before .before .before .before .pre) (cleared .last .0) (topped .last .0) (whole .last .1 .1 .0) (cleared .ensures) (omega arith) (topped .ensures)
     (whole .ensures) (omega (arith, whole .kept .1 .1 .0, topped .kept .0, cleared .kept .0))
 
 clear-requires : tie.Need-clear-requires

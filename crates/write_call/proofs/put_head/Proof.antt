@@ -15,8 +15,7 @@ returns c =
     let a = c .before .before .before .before .before .before .before .before .before .args in
     let small = c .before .before .before .before .before .before .before .before .before .pre .0 in
     let es = headFields edition1 (a .leg) (a .leg .count) in
-    let value : a .leg .from * 0x40_0000 + a .leg .to * 0x1_0000 + a .leg .time .0 * 0x10 + a .leg .count ≡ joined es = omega arith in
-    adds-put es (small .from-small, (small .to-small, (small .time-small, (omega (arith, small .count-small), tt)))) (rw value at (c .before .before .put .ensures))
+    adds-put es (small .from-small, (small .to-small, (small .time-small, (omega (arith, small .count-small), tt)))) (omega arith) (c .before .before .put .ensures)
 
 mul-put : tie.Need-mul-put
 mul-put c = search needs

@@ -1,5 +1,5 @@
 -- `write_call::write`: judged first, then the room, then the file into the front of the output.
-use Prim.Native.Nat.{ℕ, _+_, _*_, _/_}
+use Prim.Native.Nat.{ℕ}
 use native.Mathlib.Omega.{arith}
 use mathlib.Core.Path.{_≡_, sym, _∙_}
 use borrow.Author.Needs.{needs}
@@ -25,15 +25,12 @@ few c =
     let j = judged c in
     sizes (c .before .before .before .before .before .before .before .args .list .now) (j .0) (j .1) (c .before .found2 .given .0 .0) (j .2) (j .3)
 
-abbrev bytes : (c : tie.After-known-told2) → ℕ
-bytes c = (32 + 28 * c .before .found2 .given .0 .0 .legs + 28 * c .before .found2 .given .0 .0 .bands) / 8
-
 returns-3 : tie.Need-returns-3
 returns-3 c =
     let told = c .before .before .before .before .before .before .before .before in
     let j = judged told in
     let a = c .before .before .before .before .before .before .before .before .before .before .before .before .before .before .before .args in
-    writes-done (a .list .now) (a .out .now) (j .0) (j .1) (j .2) (bytes told) (c .before .before .put-file .last .1 .1 .0) (few told .bytes-are) (omega arith) (c .before .before .put-file .ensures)
+    writes-done (a .list .now) (a .out .now) (j .0) (j .1) (j .2) _ (c .before .before .put-file .last .1 .1 .0) (omega (arith, few told .bytes-are)) (omega arith) (c .before .before .put-file .ensures)
 
 returns : tie.Need-returns
 returns c =
@@ -83,15 +80,13 @@ slice-relend-prefix-put-file c = omega arith
 slice-aggregate-put-file-2 : tie.Need-slice-aggregate-put-file-2
 slice-aggregate-put-file-2 c =
     let out = c .before .before .before .before .before .before .before .before .before .before .before .before .args .out .now in
-    omega (arith, length-take-le (bytes (c .before .before .before .before .before)) out (omega arith))
+    sym (length-take-le _ out (omega arith))
 
 put-file-requires : tie.Need-put-file-requires
 put-file-requires c κs =
     let told = c .before .before .before .before .before in
     let j = judged told in
-    let out = c .before .before .before .before .before .before .before .before .before .before .before .before .args .out .now in
-    let part = length-take-le (bytes told) out (omega arith) in
-    record { net = j .0; end = j .1; read = j .2; sized = j .3; exact = part ∙ few told .bytes-are }
+    record { net = j .0; end = j .1; read = j .2; sized = j .3; exact = omega (arith, slice-aggregate-put-file-2 c, few told .bytes-are) }
 
 cast-t23 : tie.Need-cast-t23
 cast-t23 c =
