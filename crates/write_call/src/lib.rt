@@ -105,7 +105,8 @@ pub fn write(list: &[u32], out: &mut [u8]) -> Answer
                 return Answer::Refused(Refusal::Room);
             }
             put_file(list, &nothing, &mut out[..bytes], size);
-            Answer::Done(bytes as u32)
+            let written = bytes as u32;
+            Answer::Done(written)
         }
     }
 }

@@ -88,8 +88,8 @@ put-file-requires c κs =
     let j = judged told in
     record { net = j .0; end = j .1; read = j .2; sized = j .3; exact = omega (arith, slice-aggregate-put-file-2 c, few told .bytes-are) }
 
-cast-t23 : tie.Need-cast-t23
-cast-t23 c =
+cast-written : tie.Need-cast-written
+cast-written c =
     let f = few (c .before .before .before .before .before .before .before .before) in
     omega (arith, f .legs-few, f .bands-few)
 
@@ -113,7 +113,7 @@ write-spec =
     slice-relend-prefix-put-file
     slice-aggregate-put-file-2
     put-file-requires
-    cast-t23
+    cast-written
     returns-2
     same-length
     returns-3)
