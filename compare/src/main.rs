@@ -1,0 +1,83 @@
+//! The independent program: it is held against the proved calls, measures them, and writes stored cases.
+
+mod archive;
+mod bits;
+mod brute;
+mod calls;
+mod compare;
+mod damage;
+mod dice;
+mod gate;
+mod make;
+mod network;
+mod plan;
+mod sheet;
+mod show;
+mod table;
+mod trial;
+
+use calls::{Call, ALL};
+
+const USAGE: &str = "\
+compare compare [--seconds N] [--seed N] [--round N] [--calls read,write,plan,sheet,gate]
+        holds the archive against the rules of document 01 and stops at the first difference
+compare again FILE
+        runs the case of a difference file once more";
+
+fn main() {
+    let words: Vec<String> = std::env::args().skip(1).collect();
+    let status = match words.first().map(String::as_str) {
+        Some("compare") => compare::run(&wish(&words[1..])),
+        Some("again") if words.len() == 2 => again(&words[1]),
+        _ => {
+            eprintln!("{USAGE}");
+            2
+        }
+    };
+    std::process::exit(status);
+}
+
+/// The value of `--name`, if it is given.
+fn option<'a>(words: &'a [String], name: &str) -> Option<&'a str> {
+    let at = words.iter().position(|word| word == name)?;
+    words.get(at + 1).map(String::as_str)
+}
+
+fn number(words: &[String], name: &str) -> Option<u64> {
+    option(words, name).map(|word| word.parse().unwrap_or_else(|_| panic!("{name} wants a number")))
+}
+
+fn wish(words: &[String]) -> compare::Wish {
+    compare::Wish {
+        seconds: number(words, "--seconds").unwrap_or(20),
+        seed: number(words, "--seed").unwrap_or(1),
+        round: number(words, "--round"),
+        calls: calls_named(option(words, "--calls")),
+    }
+}
+
+fn calls_named(names: Option<&str>) -> Vec<Call> {
+    match names {
+        None => ALL.to_vec(),
+        Some(names) => ALL.into_iter().filter(|c| names.split(',').any(|n| n == c.name())).collect(),
+    }
+}
+
+fn again(path: &str) -> i32 {
+    let text = std::fs::read_to_string(path).expect("a difference file");
+    let case = show::parse(&text);
+    if !archive::has(case.call()) {
+        println!("the archive has no haul_{} yet", case.call().name());
+        return 2;
+    }
+    match compare::alike(&case) {
+        Ok(right) => {
+            println!("no difference: number {}, length {}", right.number, right.length);
+            0
+        }
+        Err(said) => {
+            println!("{}", show::shortened(&said));
+            1
+        }
+    }
+}
