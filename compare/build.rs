@@ -22,7 +22,15 @@ fn symbols(archive: &PathBuf) -> String {
     }
 }
 
+/// The compiler's own word on its version, for the benchmark's heading.
+fn compiler() -> String {
+    let rustc = std::env::var_os("RUSTC").expect("cargo sets this");
+    let out = Command::new(rustc).arg("--version").output().expect("rustc runs");
+    String::from_utf8_lossy(&out.stdout).trim().to_string()
+}
+
 fn main() {
+    println!("cargo::rustc-env=RUSTC_SAYS={}", compiler());
     println!("cargo::rerun-if-env-changed=TERMINAL_ARCHIVE");
     for call in CALLS {
         println!("cargo::rustc-check-cfg=cfg(has_{call})");

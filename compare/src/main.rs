@@ -1,6 +1,7 @@
 //! The independent program: it is held against the proved calls, measures them, and writes stored cases.
 
 mod archive;
+mod bench;
 mod bits;
 mod brute;
 mod calls;
@@ -10,7 +11,9 @@ mod dice;
 mod gate;
 mod make;
 mod network;
+mod plain;
 mod plan;
+mod rivals;
 mod sheet;
 mod show;
 mod table;
@@ -22,12 +25,15 @@ const USAGE: &str = "\
 compare compare [--seconds N] [--seed N] [--round N] [--calls read,write,plan,sheet,gate]
         holds the archive against the rules of document 01 and stops at the first difference
 compare again FILE
-        runs the case of a difference file once more";
+        runs the case of a difference file once more
+compare bench [--row-ms N]
+        measures the archive against plain Rust and against other algorithms";
 
 fn main() {
     let words: Vec<String> = std::env::args().skip(1).collect();
     let status = match words.first().map(String::as_str) {
         Some("compare") => compare::run(&wish(&words[1..])),
+        Some("bench") => bench::run(number(&words[1..], "--row-ms").unwrap_or(700) as f64 / 1e3),
         Some("again") if words.len() == 2 => again(&words[1]),
         _ => {
             eprintln!("{USAGE}");
