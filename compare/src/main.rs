@@ -16,7 +16,9 @@ mod plan;
 mod rivals;
 mod sheet;
 mod show;
+mod stored;
 mod table;
+mod text;
 mod trial;
 
 use calls::{Call, ALL};
@@ -27,13 +29,28 @@ compare compare [--seconds N] [--seed N] [--round N] [--calls read,write,plan,sh
 compare again FILE
         runs the case of a difference file once more
 compare bench [--row-ms N]
-        measures the archive against plain Rust and against other algorithms";
+        measures the archive against plain Rust and against other algorithms
+compare stored FOLDER
+        writes read.cases, write.cases, plan.cases, sheet.cases and gate.cases
+compare stored-check FOLDER
+        holds such files against the rules, and against the archive where it has the call
+compare net TEXT FILE
+        writes the network bytes of a text
+compare route TEXT FROM TO EARLIEST LATEST
+        prints the plan by the rules, with names
+compare ask TEXT FROM TO EARLIEST LATEST FILE
+        writes a query and the network as the program `haul` reads them";
 
 fn main() {
     let words: Vec<String> = std::env::args().skip(1).collect();
     let status = match words.first().map(String::as_str) {
         Some("compare") => compare::run(&wish(&words[1..])),
         Some("bench") => bench::run(number(&words[1..], "--row-ms").unwrap_or(700) as f64 / 1e3),
+        Some("stored") if words.len() == 2 => stored::make_files(&words[1]),
+        Some("stored-check") if words.len() == 2 => stored::check_files(&words[1]),
+        Some("net") if words.len() == 3 => text::make(&words[1], &words[2]),
+        Some("route") if words.len() == 6 => text::route(&words[1], &words[2..]),
+        Some("ask") if words.len() == 7 => text::ask(&words[1], &words[2..6], &words[6]),
         Some("again") if words.len() == 2 => again(&words[1]),
         _ => {
             eprintln!("{USAGE}");
