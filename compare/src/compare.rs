@@ -4,6 +4,7 @@ use crate::archive;
 use crate::bits::pack;
 use crate::brute;
 use crate::calls::{by_the_rules, Call, Case, Outcome, ALL};
+use crate::crash;
 use crate::damage;
 use crate::dice::Dice;
 use crate::make;
@@ -99,6 +100,7 @@ pub fn run(wish: &Wish) -> i32 {
         println!("nothing to compare");
         return 0;
     }
+    crash::watch(wish.seed);
     let mut run = Run { wish: &wish, tally: Tally::default(), round: 0 };
     match run.rounds(began, limit) {
         Ok(()) => {
@@ -157,6 +159,7 @@ impl Run<'_> {
 
     /// A round depends on the seed and its number alone.
     fn one_round(&mut self) -> Result<(), String> {
+        crash::at_round(self.round);
         let mut dice = Dice::new(self.wish.seed.wrapping_mul(0x1_0000_0001_B3).wrapping_add(self.round));
         dice.next();
         match self.round % 100 {
@@ -180,6 +183,9 @@ impl Run<'_> {
         }
         let right = by_the_rules(&case);
         self.tally.add(case.call(), right.number);
+        if self.wish.round.is_some() {
+            std::fs::write(KEPT, show::case(&case)).map_err(|error| error.to_string())?;
+        }
         match archive::outcome(&case) {
             Err(said) => Err(format!("{said}\n{}", show::case(&case))),
             Ok(got) if got == right => Ok(right.number),

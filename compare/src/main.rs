@@ -6,6 +6,7 @@ mod bits;
 mod brute;
 mod calls;
 mod compare;
+mod crash;
 mod damage;
 mod dice;
 mod gate;
@@ -16,6 +17,7 @@ mod plan;
 mod rivals;
 mod sheet;
 mod show;
+mod stack;
 mod stored;
 mod table;
 mod text;
@@ -30,6 +32,8 @@ compare again FILE
         runs the case of a difference file once more
 compare bench [--row-ms N]
         measures the archive against plain Rust and against other algorithms
+compare stack
+        measures the stack that each call uses
 compare stored FOLDER
         writes read.cases, write.cases, plan.cases, sheet.cases and gate.cases
 compare stored-check FOLDER
@@ -46,6 +50,7 @@ fn main() {
     let status = match words.first().map(String::as_str) {
         Some("compare") => compare::run(&wish(&words[1..])),
         Some("bench") => bench::run(number(&words[1..], "--row-ms").unwrap_or(700) as f64 / 1e3),
+        Some("stack") => stack::run(),
         Some("stored") if words.len() == 2 => stored::make_files(&words[1]),
         Some("stored-check") if words.len() == 2 => stored::check_files(&words[1]),
         Some("net") if words.len() == 3 => text::make(&words[1], &words[2]),
