@@ -1,6 +1,7 @@
 //! The calls of the linked archive, each wrapped in a safe function that watches the lent buffers.
 
 use crate::calls::{Call, Case, Outcome};
+use crate::edge::Edge;
 
 #[repr(C)]
 #[derive(Clone, Copy)]
@@ -199,49 +200,96 @@ fn stands<T: Copy + PartialEq>(name: &str, lent: &Lent<T>) -> Result<(), String>
 const BYTE: u8 = 0xC7;
 const NUMBER: u32 = 0xC7C6_C5C4;
 
-/// The archive's outcome, or what it did to memory that was not its own.
-pub fn outcome(case: &Case) -> Result<Outcome, String> {
+/// Lends a case between canaries: the archive's outcome, or what it did to memory that was not its own.
+fn between_canaries(case: &Case) -> Result<Outcome, String> {
     match case {
         Case::Read { net, list } => {
             let (mut a, mut b) = (Lent::new(net, BYTE), Lent::new(list, NUMBER));
             let reply = read(a.part(), b.part());
             kept("net", net, &a)?;
             stands("list", &b)?;
-            Ok(Outcome { number: reply.number, length: reply.length, numbers: b.back(), out: Vec::new() })
+            Ok(outcome_of(reply, b.back(), Vec::new()))
         }
         Case::Write { list, out } => {
             let (mut a, mut b) = (Lent::new(list, NUMBER), Lent::new(out, BYTE));
             let reply = write(a.part(), b.part());
             kept("list", list, &a)?;
             stands("out", &b)?;
-            Ok(Outcome { number: reply.number, length: reply.length, numbers: Vec::new(), out: b.back() })
+            Ok(outcome_of(reply, Vec::new(), b.back()))
         }
-        Case::Plan { net, query, table, out } => plan_or_sheet(plan, net, query, table, out),
-        Case::Sheet { net, query, table, out } => plan_or_sheet(sheet, net, query, table, out),
+        Case::Plan { net, query, table, out } | Case::Sheet { net, query, table, out } => {
+            let (mut a, mut b, mut c) = (Lent::new(net, BYTE), Lent::new(table, NUMBER), Lent::new(out, BYTE));
+            let reply = plan_or_sheet(case.call())(a.part(), query, b.part(), c.part());
+            kept("net", net, &a)?;
+            stands("table", &b)?;
+            stands("out", &c)?;
+            Ok(outcome_of(reply, b.back(), c.back()))
+        }
         Case::Gate { net, plan, sheet } => {
             let (mut a, mut b, mut c) = (Lent::new(net, BYTE), Lent::new(plan, BYTE), Lent::new(sheet, BYTE));
             let number = gate(a.part(), b.part(), c.part());
             kept("net", net, &a)?;
             kept("plan", plan, &b)?;
             kept("sheet", sheet, &c)?;
-            Ok(Outcome { number, length: 0, numbers: Vec::new(), out: Vec::new() })
+            Ok(outcome_of(Reply { number, length: 0 }, Vec::new(), Vec::new()))
         }
     }
 }
 
+fn outcome_of(reply: Reply, numbers: Vec<u32>, out: Vec<u8>) -> Outcome {
+    Outcome { number: reply.number, length: reply.length, numbers, out }
+}
+
 type PlanCall = fn(&[u8], &crate::plan::Query, &mut [u32], &mut [u8]) -> Reply;
 
-fn plan_or_sheet(
-    call: PlanCall,
-    net: &[u8],
-    query: &crate::plan::Query,
-    table: &[u32],
-    out: &[u8],
-) -> Result<Outcome, String> {
-    let (mut a, mut b, mut c) = (Lent::new(net, BYTE), Lent::new(table, NUMBER), Lent::new(out, BYTE));
-    let reply = call(a.part(), query, b.part(), c.part());
-    kept("net", net, &a)?;
-    stands("table", &b)?;
-    stands("out", &c)?;
-    Ok(Outcome { number: reply.number, length: reply.length, numbers: b.back(), out: c.back() })
+fn plan_or_sheet(call: Call) -> PlanCall {
+    if call == Call::Plan {
+        plan
+    } else {
+        sheet
+    }
+}
+
+/// The archive, called in two ways: between canaries, and with every buffer right before a forbidden page.
+pub struct Archive {
+    edges: [Edge; 3],
+}
+
+impl Archive {
+    pub fn new() -> Archive {
+        Archive { edges: [Edge::new(), Edge::new(), Edge::new()] }
+    }
+
+    /// The archive's outcome; an error if it touched what was not its own or the two ways differ.
+    pub fn outcome(&mut self, case: &Case) -> Result<Outcome, String> {
+        let first = between_canaries(case)?;
+        let second = self.at_the_edge(case);
+        if first != second {
+            return Err("the same call twice, two outcomes".into());
+        }
+        Ok(first)
+    }
+
+    fn at_the_edge(&mut self, case: &Case) -> Outcome {
+        let [a, b, c] = &mut self.edges;
+        match case {
+            Case::Read { net, list } => {
+                let list = b.hold(list);
+                outcome_of(read(a.hold(net), list), list.to_vec(), Vec::new())
+            }
+            Case::Write { list, out } => {
+                let out = b.hold(out);
+                outcome_of(write(a.hold(list), out), Vec::new(), out.to_vec())
+            }
+            Case::Plan { net, query, table, out } | Case::Sheet { net, query, table, out } => {
+                let (table, out) = (b.hold(table), c.hold(out));
+                let reply = plan_or_sheet(case.call())(a.hold(net), query, table, out);
+                outcome_of(reply, table.to_vec(), out.to_vec())
+            }
+            Case::Gate { net, plan, sheet } => {
+                let number = gate(a.hold(net), b.hold(plan), c.hold(sheet));
+                outcome_of(Reply { number, length: 0 }, Vec::new(), Vec::new())
+            }
+        }
+    }
 }

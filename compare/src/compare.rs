@@ -1,6 +1,6 @@
 //! Runs the archive and the rules on many cases and stops at the first difference.
 
-use crate::archive;
+use crate::archive::{self, Archive};
 use crate::bits::pack;
 use crate::brute;
 use crate::calls::{by_the_rules, Call, Case, Outcome, ALL};
@@ -78,6 +78,7 @@ impl Tally {
 /// The run: what is asked, where it is, what it saw.
 struct Run<'a> {
     wish: &'a Wish,
+    archive: Archive,
     tally: Tally,
     round: u64,
 }
@@ -101,7 +102,7 @@ pub fn run(wish: &Wish) -> i32 {
         return 0;
     }
     crash::watch(wish.seed);
-    let mut run = Run { wish: &wish, tally: Tally::default(), round: 0 };
+    let mut run = Run { wish: &wish, archive: Archive::new(), tally: Tally::default(), round: 0 };
     match run.rounds(began, limit) {
         Ok(()) => {
             println!("{} rounds, {} cases, no difference", run.round, run.tally.total());
@@ -186,11 +187,8 @@ impl Run<'_> {
         if self.wish.round.is_some() {
             std::fs::write(KEPT, show::case(&case)).map_err(|error| error.to_string())?;
         }
-        match archive::outcome(&case) {
-            Err(said) => Err(format!("{said}\n{}", show::case(&case))),
-            Ok(got) if got == right => Ok(right.number),
-            Ok(got) => Err(format!("{}\n{}", show::difference(&right, &got), show::case(&case))),
-        }
+        judge(&case, &right, self.archive.outcome(&case))?;
+        Ok(right.number)
     }
 
     fn read(&mut self, dice: &mut Dice, net: &[u8], room: usize) -> Result<u32, String> {
@@ -640,12 +638,18 @@ fn change_row(dice: &mut Dice, row: &mut Vec<Step>, query: &Query) {
     }
 }
 
-/// For other parts of this program: the archive's outcome is the rules' outcome.
-pub fn alike(case: &Case) -> Result<Outcome, String> {
-    let right = by_the_rules(case);
-    match archive::outcome(case) {
+/// The archive's outcome must be the rules' outcome.
+fn judge(case: &Case, right: &Outcome, got: Result<Outcome, String>) -> Result<(), String> {
+    match got {
         Err(said) => Err(format!("{said}\n{}", show::case(case))),
-        Ok(got) if got == right => Ok(right),
-        Ok(got) => Err(format!("{}\n{}", show::difference(&right, &got), show::case(case))),
+        Ok(got) if got == *right => Ok(()),
+        Ok(got) => Err(format!("{}\n{}", show::difference(right, &got), show::case(case))),
     }
+}
+
+/// One case of a difference file.
+pub fn again(case: &Case) -> Result<Outcome, String> {
+    let right = by_the_rules(case);
+    judge(case, &right, Archive::new().outcome(case))?;
+    Ok(right)
 }

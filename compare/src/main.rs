@@ -9,7 +9,9 @@ mod compare;
 mod crash;
 mod damage;
 mod dice;
+mod edge;
 mod gate;
+mod haul;
 mod make;
 mod network;
 mod plain;
@@ -32,6 +34,10 @@ compare again FILE
         runs the case of a difference file once more
 compare bench [--row-ms N]
         measures the archive against plain Rust and against other algorithms
+compare haul
+        what the program `haul` prints for standard input, by the rules
+compare haul-compare PROGRAM [--seconds N] [--seed N]
+        holds a built `haul` against the rules
 compare stack
         measures the stack that each call uses
 compare stored FOLDER
@@ -50,6 +56,11 @@ fn main() {
     let status = match words.first().map(String::as_str) {
         Some("compare") => compare::run(&wish(&words[1..])),
         Some("bench") => bench::run(number(&words[1..], "--row-ms").unwrap_or(700) as f64 / 1e3),
+        Some("haul") if words.len() == 1 => haul::run(),
+        Some("haul-compare") if words.len() >= 2 => {
+            let wish = wish(&words[2..]);
+            haul::compare(&words[1], wish.seconds, wish.seed)
+        }
         Some("stack") => stack::run(),
         Some("stored") if words.len() == 2 => stored::make_files(&words[1]),
         Some("stored-check") if words.len() == 2 => stored::check_files(&words[1]),
@@ -98,7 +109,7 @@ fn again(path: &str) -> i32 {
         println!("the archive has no haul_{} yet", case.call().name());
         return 2;
     }
-    match compare::alike(&case) {
+    match compare::again(&case) {
         Ok(right) => {
             println!("no difference: number {}, length {}", right.number, right.length);
             0

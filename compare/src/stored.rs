@@ -1,7 +1,7 @@
 //! Stored cases: inputs with the outcome by the rules, as files that a small program can read from front to back.
 //! README.md has the format.
 
-use crate::archive;
+use crate::archive::{self, Archive};
 use crate::bits::pack;
 use crate::brute;
 use crate::calls::{by_the_rules, Call, Case, Outcome, ALL};
@@ -167,33 +167,6 @@ fn examples() -> Vec<Network> {
     vec![Network { places: 1, legs: Vec::new() }, one_leg(), trial::network(), trial::worked_example()]
 }
 
-fn free(from: usize, to: usize, time: u32) -> Leg {
-    Leg { from, to, time, bands: vec![Band { start: 0, toll: 0 }] }
-}
-
-/// Queries on which a shortcut names the wrong plan.
-fn traps() -> Vec<(Network, Query)> {
-    let of = |places: usize, legs: &[Leg], query: Query| (Network { places, legs: legs.to_vec() }, query);
-    let toll = |leg: Leg, toll: u32| Leg { bands: vec![Band { start: 0, toll }], ..leg };
-    vec![
-        // The end's last cell shows one leg, but the plan that arrives first has two.
-        of(3, &[free(0, 1, 1), free(1, 2, 1), free(0, 2, 5)], trial::query(0, 2, 0, 10)),
-        // A circle of legs without time and toll, and legs back to their own place.
-        of(4, &[free(0, 1, 0), free(1, 2, 0), free(2, 0, 0), toll(free(2, 3, 0), 7)], trial::query(0, 3, 5, 6)),
-        of(2, &[free(0, 0, 0), free(1, 1, 0), free(0, 1, 1), free(1, 0, 0)], trial::query(0, 1, 5, 8)),
-        // Legs that are alike: the lower number.
-        of(3, &[free(1, 2, 1), free(0, 1, 1), free(1, 2, 1), free(0, 1, 1)], trial::query(0, 2, 3, 9)),
-        // The same arrival by two ways: the lower last leg, though the other way is earlier before it.
-        of(4, &[free(0, 1, 3), free(0, 2, 1), free(1, 3, 1), free(2, 3, 3)], trial::query(0, 3, 0, 6)),
-        of(4, &[free(0, 1, 3), free(0, 2, 1), free(2, 3, 3), free(1, 3, 1)], trial::query(0, 3, 0, 6)),
-        // The same last leg from a place that is reached sooner by the higher leg.
-        of(3, &[free(0, 1, 2), free(0, 1, 1), toll(free(1, 2, 4), 2)], trial::query(0, 2, 0, 9)),
-        // Cheaper with more legs, and dearer sooner.
-        of(3, &[toll(free(0, 2, 1), 2), toll(free(0, 1, 1), 1), free(1, 2, 1)], trial::query(0, 2, 0, 4)),
-        of(3, &[toll(free(0, 2, 1), 2), toll(free(0, 1, 1), 1), free(1, 2, 1)], trial::query(0, 2, 0, 1)),
-    ]
-}
-
 /// A small network whose file and list stay within the limits.
 fn made(dice: &mut Dice) -> (Network, make::Shape) {
     loop {
@@ -289,7 +262,7 @@ fn queries(dice: &mut Dice, count: usize) -> Vec<(Network, Query)> {
     let mut out: Vec<(Network, Query)> = trial::rows().into_iter().map(|row| (trial::network(), row.query)).collect();
     out.push((trial::network(), trial::query(0, 2, 0, 120)));
     out.push((trial::worked_example(), trial::query(0, 3, 0, 60)));
-    out.extend(traps());
+    out.extend(trial::traps());
     for _ in 0..count {
         let (net, shape) = made(dice);
         let query = make::query(dice, &net, shape.from, shape.window);
@@ -496,6 +469,7 @@ fn told(seen: &[u32; 16]) -> String {
 
 /// Holds stored files against the rules, and against the archive where it has the call.
 pub fn check_files(folder: &str) -> i32 {
+    let mut linked = Archive::new();
     for (name, _) in files() {
         let path = format!("{folder}/{name}.cases");
         let bytes = std::fs::read(&path).expect("the stored file");
@@ -507,7 +481,7 @@ pub fn check_files(folder: &str) -> i32 {
             assert_eq!(by_the_rules(&case), right, "case {k} of {path} by the rules");
             if archive::has(case.call()) {
                 by_archive += 1;
-                assert_eq!(archive::outcome(&case).as_ref(), Ok(&right), "case {k} of {path} by the archive");
+                assert_eq!(linked.outcome(&case).as_ref(), Ok(&right), "case {k} of {path} by the archive");
             }
         }
         assert!(eye.rest.is_empty(), "{path} goes on after its cases");

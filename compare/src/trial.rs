@@ -7,6 +7,7 @@ use crate::network::{self, Band, Leg, Network};
 use crate::plan::{arrival, cost, PlanFile, Query, Ride};
 use crate::sheet::{Sheet, Step};
 use crate::table;
+use crate::text;
 
 fn leg(from: usize, to: usize, time: u32, bands: &[(u32, u32)]) -> Leg {
     let bands = bands.iter().map(|&(start, toll)| Band { start, toll }).collect();
@@ -77,6 +78,7 @@ pub fn check_the_rules() {
     check_sheet();
     check_files();
     check_worked_example();
+    check_shipped();
 }
 
 fn check_rows() {
@@ -122,6 +124,22 @@ fn check_files() {
     }
 }
 
+/// The texts and the bytes in `examples/` are the same networks.
+fn check_shipped() {
+    let shipped: [(&str, &[u8]); 3] = [
+        (include_str!("../../examples/trial.txt"), include_bytes!("../../examples/trial.net")),
+        (include_str!("../../examples/worked.txt"), include_bytes!("../../examples/worked.net")),
+        (include_str!("../../examples/region.txt"), include_bytes!("../../examples/region.net")),
+    ];
+    let nets = shipped.map(|(text, bytes)| {
+        let net = text::parse(text).unwrap_or_else(|said| panic!("{said}")).net;
+        assert_eq!(network::file_of(&net), bytes, "a shipped network is not the one of its text");
+        net
+    });
+    assert_eq!(nets[0], network());
+    assert_eq!(nets[1], worked_example());
+}
+
 fn check_worked_example() {
     let net = worked_example();
     let q = query(0, 3, 0, 60);
@@ -132,6 +150,33 @@ fn check_worked_example() {
     assert_eq!(departures(&plan), [0, 15, 20]);
     let short = query(0, 3, 0, 30);
     assert_eq!(brute::solve(&net, &short, 4).0, Some(plan));
+}
+
+fn free(from: usize, to: usize, time: u32) -> Leg {
+    Leg { from, to, time, bands: vec![Band { start: 0, toll: 0 }] }
+}
+
+/// Queries on which a shortcut names the wrong plan.
+pub fn traps() -> Vec<(Network, Query)> {
+    let of = |places: usize, legs: &[Leg], q: Query| (Network { places, legs: legs.to_vec() }, q);
+    let toll = |leg: Leg, toll: u32| Leg { bands: vec![Band { start: 0, toll }], ..leg };
+    vec![
+        // The end's last cell shows one leg, but the plan that arrives first has two.
+        of(3, &[free(0, 1, 1), free(1, 2, 1), free(0, 2, 5)], query(0, 2, 0, 10)),
+        // A circle of legs without time and toll, and legs back to their own place.
+        of(4, &[free(0, 1, 0), free(1, 2, 0), free(2, 0, 0), toll(free(2, 3, 0), 7)], query(0, 3, 5, 6)),
+        of(2, &[free(0, 0, 0), free(1, 1, 0), free(0, 1, 1), free(1, 0, 0)], query(0, 1, 5, 8)),
+        // Legs that are alike: the lower number.
+        of(3, &[free(1, 2, 1), free(0, 1, 1), free(1, 2, 1), free(0, 1, 1)], query(0, 2, 3, 9)),
+        // The same arrival by two ways: the lower last leg, though the other way is earlier before it.
+        of(4, &[free(0, 1, 3), free(0, 2, 1), free(1, 3, 1), free(2, 3, 3)], query(0, 3, 0, 6)),
+        of(4, &[free(0, 1, 3), free(0, 2, 1), free(2, 3, 3), free(1, 3, 1)], query(0, 3, 0, 6)),
+        // The same last leg from a place that is reached sooner by the higher leg.
+        of(3, &[free(0, 1, 2), free(0, 1, 1), toll(free(1, 2, 4), 2)], query(0, 2, 0, 9)),
+        // Cheaper with more legs, and dearer sooner.
+        of(3, &[toll(free(0, 2, 1), 2), toll(free(0, 1, 1), 1), free(1, 2, 1)], query(0, 2, 0, 4)),
+        of(3, &[toll(free(0, 2, 1), 2), toll(free(0, 1, 1), 1), free(1, 2, 1)], query(0, 2, 0, 1)),
+    ]
 }
 
 /// The same examples as cases for the archive.
@@ -146,6 +191,8 @@ pub fn cases() -> Vec<Case> {
     let mut queries: Vec<(&Network, Query)> = rows().iter().map(|row| (&nets[0], row.query)).collect();
     queries.push((&nets[0], query(0, 2, 0, 120)));
     queries.push((&nets[1], query(0, 3, 0, 60)));
+    let traps = traps();
+    queries.extend(traps.iter().map(|(net, q)| (net, *q)));
     for (net, q) in queries {
         let file = network::file_of(net);
         let table = vec![7; net.places * q.window() + 1];
