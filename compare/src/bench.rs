@@ -11,23 +11,29 @@ use crate::rivals::{self, Search};
 use std::hint::black_box;
 use std::time::{Duration, Instant};
 
-/// Median times of two works that take turns.
+/// Median times of two works that take turns. A work of a few microseconds is done several times in a run.
 fn measure(budget: Duration, mut clear: impl FnMut(), mut a: impl FnMut(), mut b: impl FnMut()) -> (f64, f64) {
     let (mut times_a, mut times_b) = (Vec::new(), Vec::new());
+    timed(&mut a, 1);
+    let once = timed(&mut a, 1).max(timed(&mut b, 1));
+    let times = (20.0 / once).clamp(1.0, 1_000.0) as u32;
     let began = Instant::now();
     while times_a.len() < 5 || began.elapsed() < budget && times_a.len() < 2_001 {
         clear();
-        times_a.push(timed(&mut a));
+        times_a.push(timed(&mut a, times));
         clear();
-        times_b.push(timed(&mut b));
+        times_b.push(timed(&mut b, times));
     }
     (median(times_a), median(times_b))
 }
 
-fn timed(work: &mut impl FnMut()) -> f64 {
+/// Microseconds for one work.
+fn timed(work: &mut impl FnMut(), times: u32) -> f64 {
     let began = Instant::now();
-    work();
-    began.elapsed().as_secs_f64() * 1e6
+    for _ in 0..times {
+        work();
+    }
+    began.elapsed().as_secs_f64() * 1e6 / f64::from(times)
 }
 
 fn median(mut times: Vec<f64>) -> f64 {
@@ -62,7 +68,7 @@ impl Bench {
             Asked::Faster(times) => format!("at least {times} times as fast: {}", verdict(other >= times * ours)),
         };
         let (a, b) = (ours / other, other / ours);
-        println!("| {call} | {against} | {size} | {ours:.1} | {other:.1} | {a:.3} | {b:.2} | {said} |");
+        println!("| {call} | {against} | {size} | {ours:.2} | {other:.2} | {a:.3} | {b:.2} | {said} |");
     }
 }
 

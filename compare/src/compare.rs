@@ -144,12 +144,14 @@ fn self_check(seed: u64, limit: Duration) {
 
 impl Run<'_> {
     fn rounds(&mut self, began: Instant, limit: Duration) -> Result<(), String> {
-        if let Some(round) = self.wish.round {
-            self.round = round;
-            return self.one_round();
+        self.round = self.wish.round.unwrap_or(0);
+        if self.round == 0 {
+            for case in trial::cases() {
+                self.check(case)?;
+            }
         }
-        for case in trial::cases() {
-            self.check(case)?;
+        if self.wish.round.is_some() {
+            return self.one_round();
         }
         while began.elapsed() < limit {
             self.one_round()?;
