@@ -89,8 +89,8 @@ fn regional(seed: u64, places: usize, legs: usize, bands: usize) -> Network {
         let to = if k < places { (k + 1) % places } else { dice.below(places) };
         let mut held = make::eight_bands(&mut dice);
         held.truncate(bands);
-        held.iter_mut().for_each(|band| band.toll = dice.from_to(50, 3_000));
-        out.push(Leg { from, to, time: dice.from_to(5, 90), bands: held });
+        held.iter_mut().for_each(|band| band.toll = dice.between(50, 3_000));
+        out.push(Leg { from, to, time: dice.between(5, 90), bands: held });
     }
     Network { places, legs: out }
 }
@@ -102,8 +102,8 @@ fn line(order: &[usize]) -> Network {
         .windows(2)
         .map(|pair| {
             let mut bands = make::eight_bands(&mut dice);
-            bands.iter_mut().for_each(|band: &mut Band| band.toll = dice.from_to(50, 3_000));
-            Leg { from: pair[0], to: pair[1], time: dice.from_to(5, 30), bands }
+            bands.iter_mut().for_each(|band: &mut Band| band.toll = dice.between(50, 3_000));
+            Leg { from: pair[0], to: pair[1], time: dice.between(5, 30), bands }
         })
         .collect();
     Network { places: order.len(), legs }
@@ -212,8 +212,12 @@ impl Bench {
             let times = measure(
                 self.budget,
                 || list.borrow_mut().fill(0),
-                || { black_box(archive::read(black_box(&file), &mut list.borrow_mut()).number); },
-                || { black_box(other(black_box(&file), &mut list.borrow_mut())); },
+                || {
+                    black_box(archive::read(black_box(&file), &mut list.borrow_mut()).number);
+                },
+                || {
+                    black_box(other(black_box(&file), &mut list.borrow_mut()));
+                },
             );
             let asked = if largest && k == 0 { Asked::AtMost(1.5) } else { Asked::Nothing };
             self.row("read", name, size, times, asked);
@@ -231,8 +235,12 @@ impl Bench {
         let times = measure(
             self.budget,
             || out.borrow_mut().fill(0),
-            || { black_box(archive::write(black_box(&list), &mut out.borrow_mut()).number); },
-            || { black_box(plain::write(black_box(&list), &mut out.borrow_mut())); },
+            || {
+                black_box(archive::write(black_box(&list), &mut out.borrow_mut()).number);
+            },
+            || {
+                black_box(plain::write(black_box(&list), &mut out.borrow_mut()));
+            },
         );
         self.row("write", "plain Rust, 64-bit shifts", size, times, Asked::Nothing);
     }
@@ -264,7 +272,9 @@ impl Bench {
                 cells.borrow_mut().fill(0);
                 out.borrow_mut().fill(0);
             },
-            || { black_box(ours(black_box(net), query, &mut cells.borrow_mut(), &mut out.borrow_mut()).number); },
+            || {
+                black_box(ours(black_box(net), query, &mut cells.borrow_mut(), &mut out.borrow_mut()).number);
+            },
             || other(black_box(net), query, &mut cells.borrow_mut(), &mut out.borrow_mut()),
         )
     }
@@ -278,7 +288,11 @@ impl Bench {
         let up: Vec<usize> = (0..64).collect();
         let down: Vec<usize> = (0..64).rev().collect();
         let mixed: Vec<usize> = (0..64).map(|k| k * 37 % 64).collect();
-        for (order, name) in [(up, "; a line, best plan 63 legs"), (down, "; that line numbered backwards"), (mixed, "; that line in mixed order")] {
+        for (order, name) in [
+            (up, "; a line, best plan 63 legs"),
+            (down, "; that line numbered backwards"),
+            (mixed, "; that line in mixed order"),
+        ] {
             let query = whole_window(order[0], order[63]);
             self.plan_rows(&line(&order), query, name, Asked::Nothing, Asked::Faster(10.0));
         }
@@ -293,7 +307,13 @@ impl Bench {
         agree(&file, &query);
         let decoded = |file: &[u8]| plain::decode(file).unwrap_or_else(|_| unreachable!());
         let rows: [(&str, &Other, Asked); 8] = [
-            ("the same algorithm in plain Rust", &|f, q, c, o| { black_box(plain::plan(f, q, c, o)); }, plain_asked),
+            (
+                "the same algorithm in plain Rust",
+                &|f, q, c, o| {
+                    black_box(plain::plan(f, q, c, o));
+                },
+                plain_asked,
+            ),
             (
                 "Dijkstra, binary heap, whole table and walk back",
                 &|f, q, c, _| {
@@ -305,7 +325,9 @@ impl Bench {
             ),
             (
                 "Dijkstra, binary heap, stops at the end place, cost only",
-                &|f, q, c, _| { black_box(rivals::dijkstra(&decoded(f), q, c, true)); },
+                &|f, q, c, _| {
+                    black_box(rivals::dijkstra(&decoded(f), q, c, true));
+                },
                 Asked::Nothing,
             ),
             (
@@ -328,17 +350,23 @@ impl Bench {
             ),
             (
                 "the two-step search of source 001, which stops at the end place",
-                &|f, q, _, _| { black_box(rivals::two_step(&decoded(f), q, AS_PUBLISHED).map(|p| p.cost)); },
+                &|f, q, _, _| {
+                    black_box(rivals::two_step(&decoded(f), q, AS_PUBLISHED).map(|p| p.cost));
+                },
                 Asked::Nothing,
             ),
             (
                 "the two-step search, run on for all places",
-                &|f, q, _, _| { black_box(rivals::two_step(&decoded(f), q, ALL_PLACES).map(|p| p.cost)); },
+                &|f, q, _, _| {
+                    black_box(rivals::two_step(&decoded(f), q, ALL_PLACES).map(|p| p.cost));
+                },
                 Asked::Nothing,
             ),
             (
                 "the two-step search for all places, dearer later pieces dropped",
-                &|f, q, _, _| { black_box(rivals::two_step(&decoded(f), q, ALL_DROPPED).map(|p| p.cost)); },
+                &|f, q, _, _| {
+                    black_box(rivals::two_step(&decoded(f), q, ALL_DROPPED).map(|p| p.cost));
+                },
                 Asked::Nothing,
             ),
         ];
@@ -376,8 +404,9 @@ impl Bench {
             let query = to_the_dearest(&net, 0, LAST_MINUTE);
             let file = network::file_of(&net);
             let size = size_of(&net, &query);
-            let times =
-                self.against(&file, &query, Call::Sheet, &|f, q, c, o| { black_box(plain::sheet(f, q, c, o)); });
+            let times = self.against(&file, &query, Call::Sheet, &|f, q, c, o| {
+                black_box(plain::sheet(f, q, c, o));
+            });
             self.row("sheet", "the same algorithm in plain Rust", &size, times, Asked::Nothing);
         }
     }
@@ -399,16 +428,29 @@ impl Bench {
             let (_, length) = plain::sheet(&file, &query, &mut cells, &mut sheet);
             sheet.truncate(length as usize);
             assert_eq!((archive::gate(&file, &plan, &sheet), plain::gate(&file, &plan, &sheet)), (0, 0));
-            let ours = || { black_box(archive::gate(black_box(&file), &plan, &sheet)); };
-            let times =
-                measure(self.budget, || (), ours, || { black_box(plain::gate(black_box(&file), &plan, &sheet)); });
+            let ours = || {
+                black_box(archive::gate(black_box(&file), &plan, &sheet));
+            };
+            let times = measure(
+                self.budget,
+                || (),
+                ours,
+                || {
+                    black_box(plain::gate(black_box(&file), &plan, &sheet));
+                },
+            );
             let size = format!("{size}; sheet of {} bytes", sheet.len());
             self.row("gate", "the same test in plain Rust", &size, times, plain_asked);
             if archive::has(Call::Plan) {
                 let mut out = vec![0; 256];
-                let times = measure(self.budget, || (), ours, || {
-                    { black_box(archive::plan(black_box(&file), &query, &mut cells, &mut out).number); }
-                });
+                let times = measure(
+                    self.budget,
+                    || (),
+                    ours,
+                    || {
+                        black_box(archive::plan(black_box(&file), &query, &mut cells, &mut out).number);
+                    },
+                );
                 self.row("gate", "the plan call", &size, times, plan_asked);
             }
         }

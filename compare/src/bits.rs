@@ -44,7 +44,7 @@ impl BitWriter {
     pub fn put(&mut self, width: usize, value: u32) {
         assert!(width == 32 || value < 1 << width, "{value} does not fit {width} bits");
         for k in (0..width).rev() {
-            if self.bits % 8 == 0 {
+            if self.bits.is_multiple_of(8) {
                 self.bytes.push(0);
             }
             let bit = (value >> k & 1) as u8;

@@ -163,7 +163,7 @@ impl Run<'_> {
     /// A round depends on the seed and its number alone.
     fn one_round(&mut self) -> Result<(), String> {
         crash::at_round(self.round);
-        let mut dice = Dice::new(self.wish.seed.wrapping_mul(0x1_0000_0001_B3).wrapping_add(self.round));
+        let mut dice = Dice::new(self.wish.seed.wrapping_mul(0x0100_0000_01B3).wrapping_add(self.round));
         dice.next();
         match self.round % 100 {
             0 => self.largest_files(&mut dice),
@@ -394,7 +394,8 @@ impl Run<'_> {
         let (time, toll) = (dice.pick(&[0, 1, 2]), dice.pick(&[0, 1, 65_535]));
         let mut net = make::chain(dice, places, time, toll);
         if dice.once_in(2) {
-            let shape = make::Shape { places: places as u32, legs: 40, bands: 3, time: 3, toll: 2, from: 0, window: 150 };
+            let shape =
+                make::Shape { places: places as u32, legs: 40, bands: 3, time: 3, toll: 2, from: 0, window: 150 };
             net.legs.extend(make::network(dice, &shape).legs);
         }
         let query = make::query(dice, &net, 0, 150);
@@ -521,7 +522,7 @@ pub fn bad_network(dice: &mut Dice, net: &Network) -> Vec<u8> {
 
 fn near(dice: &mut Dice, value: u32, top: u32) -> u32 {
     match dice.below(6) {
-        0 => dice.from_to(0, top),
+        0 => dice.between(0, top),
         1 => top,
         2 | 3 => value.saturating_sub(1),
         _ => (value + 1).min(top),
@@ -583,7 +584,7 @@ pub fn changed_sheet(dice: &mut Dice, sheet: &Sheet, query: &Query) -> Vec<u8> {
         return damage::any(dice, &sheet.bytes());
     }
     let mut sheet = sheet.clone();
-    for _ in 0..dice.from_to(1, 2) {
+    for _ in 0..dice.between(1, 2) {
         change_sheet(dice, &mut sheet, query);
     }
     sheet.bytes()
@@ -614,7 +615,7 @@ fn change_row(dice: &mut Dice, row: &mut Vec<Step>, query: &Query) {
     let minute = match dice.below(8) {
         0 => query.earliest.saturating_sub(1),
         1 => (query.latest + 1).min(4_095),
-        _ => dice.from_to(query.earliest, query.latest),
+        _ => dice.between(query.earliest, query.latest),
     };
     let at = row.iter().position(|step| step.minute >= minute).unwrap_or(row.len());
     match dice.below(6) {

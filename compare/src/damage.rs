@@ -27,10 +27,10 @@ pub fn extended(file: &[u8]) -> Vec<Vec<u8>> {
 /// Some damage to any file: a flip, a cut, a tail, or two of them.
 pub fn any(dice: &mut Dice, file: &[u8]) -> Vec<u8> {
     let mut out = file.to_vec();
-    for _ in 0..dice.from_to(1, 2) {
+    for _ in 0..dice.between(1, 2) {
         match dice.below(4) {
             0 => out.truncate(dice.below(out.len() + 1)),
-            1 => out.extend((0..dice.from_to(1, 3)).map(|_| dice.pick(&[0, 0, 1, 255]))),
+            1 => out.extend((0..dice.between(1, 3)).map(|_| dice.pick(&[0, 0, 1, 255]))),
             _ if out.is_empty() => {}
             _ => out = flip(&out, dice.below(out.len() * 8)),
         }

@@ -32,9 +32,7 @@ fn sound(net: &Network, plan: &PlanFile) -> bool {
 }
 
 fn obeys_a(sheet: &Sheet, query: &Query) -> bool {
-    sheet.rows[query.start as usize]
-        .iter()
-        .any(|step| step.minute == query.earliest && step.cost == 0)
+    sheet.rows[query.start as usize].iter().any(|step| step.minute == query.earliest && step.cost == 0)
 }
 
 fn obeys_b(net: &Network, sheet: &Sheet, query: &Query) -> bool {

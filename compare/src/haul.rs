@@ -100,14 +100,14 @@ fn input(dice: &mut Dice) -> Vec<u8> {
     match dice.below(16) {
         0 => query.latest = 4_095,
         1 => query.earliest = 4_095,
-        2 => query.latest = dice.from_to(LAST_MINUTE - 1, 4_095),
-        3 => query.end = dice.from_to(0, 63),
-        4 => query.start = dice.from_to(0, 63),
+        2 => query.latest = dice.between(LAST_MINUTE - 1, 4_095),
+        3 => query.end = dice.between(0, 63),
+        4 => query.start = dice.between(0, 63),
         5 => std::mem::swap(&mut query.earliest, &mut query.latest),
         6 => (query.earliest, query.latest) = (0, LAST_MINUTE),
         _ => {}
     }
-    let fill = if dice.once_in(20) { dice.from_to(1, 15) } else { 0 };
+    let fill = if dice.once_in(20) { dice.between(1, 15) } else { 0 };
     let file = if dice.once_in(6) { bad_network(dice, &net) } else { network::file_of(&net) };
     let mut all = head(&query, fill);
     all.extend(file);

@@ -23,7 +23,7 @@ pub fn bands(dice: &mut Dice, shape: &Shape, count: u32) -> Vec<Band> {
     let mut starts = vec![0];
     let last = LAST_MINUTE.min(shape.from + shape.window);
     for _ in 1..count {
-        starts.push(if dice.once_in(12) { dice.from_to(0, LAST_MINUTE) } else { dice.from_to(shape.from, last) });
+        starts.push(if dice.once_in(12) { dice.between(0, LAST_MINUTE) } else { dice.between(shape.from, last) });
     }
     starts.sort_unstable();
     starts.dedup();
@@ -34,7 +34,7 @@ fn toll(dice: &mut Dice, shape: &Shape) -> u32 {
     match dice.below(8) {
         0 => 0,
         1 => shape.toll,
-        _ => dice.from_to(0, shape.toll),
+        _ => dice.between(0, shape.toll),
     }
 }
 
@@ -42,7 +42,7 @@ fn time(dice: &mut Dice, shape: &Shape) -> u32 {
     match dice.below(6) {
         0 => 0,
         1 if dice.once_in(20) => dice.pick(&[2_878, 2_879, 1_440]),
-        _ => dice.from_to(0, shape.time),
+        _ => dice.between(0, shape.time),
     }
 }
 
@@ -58,7 +58,7 @@ pub fn network(dice: &mut Dice, shape: &Shape) -> Network {
         }
         let from = dice.below(places);
         let to = if dice.once_in(10) { from } else { dice.below(places) };
-        let count = dice.from_to(1, shape.bands);
+        let count = dice.between(1, shape.bands);
         legs.push(Leg { from, to, time: time(dice, shape), bands: bands(dice, shape, count) });
     }
     Network { places, legs }
@@ -69,17 +69,17 @@ fn first_minute(dice: &mut Dice, window: u32) -> u32 {
     match dice.below(4) {
         0 => 0,
         1 => LAST_MINUTE - window,
-        _ => dice.from_to(0, LAST_MINUTE - window),
+        _ => dice.between(0, LAST_MINUTE - window),
     }
 }
 
 /// Few places, few minutes, many ties: every plan can be enumerated.
 pub fn tiny(dice: &mut Dice) -> Shape {
-    let window = dice.from_to(0, 7);
+    let window = dice.between(0, 7);
     Shape {
-        places: dice.from_to(1, 4),
-        legs: dice.from_to(0, 6),
-        bands: dice.from_to(1, 3),
+        places: dice.between(1, 4),
+        legs: dice.between(0, 6),
+        bands: dice.between(1, 3),
         time: dice.pick(&[0, 1, 2, 3]),
         toll: dice.pick(&[0, 1, 2, 3]),
         from: first_minute(dice, window),
@@ -89,11 +89,11 @@ pub fn tiny(dice: &mut Dice) -> Shape {
 
 /// Up to a dozen places and an hour or two.
 pub fn small(dice: &mut Dice) -> Shape {
-    let window = dice.from_to(0, 120);
+    let window = dice.between(0, 120);
     Shape {
-        places: dice.from_to(1, 12),
-        legs: dice.from_to(0, 30),
-        bands: dice.from_to(1, 8),
+        places: dice.between(1, 12),
+        legs: dice.between(0, 30),
+        bands: dice.between(1, 8),
         time: dice.pick(&[0, 1, 5, 20]),
         toll: dice.pick(&[0, 1, 3, 500, 65_535]),
         from: first_minute(dice, window),
@@ -102,11 +102,11 @@ pub fn small(dice: &mut Dice) -> Shape {
 }
 
 pub fn middle(dice: &mut Dice) -> Shape {
-    let window = dice.from_to(0, 600);
+    let window = dice.between(0, 600);
     Shape {
-        places: dice.from_to(1, 64),
-        legs: dice.from_to(0, 150),
-        bands: dice.from_to(1, 8),
+        places: dice.between(1, 64),
+        legs: dice.between(0, 150),
+        bands: dice.between(1, 8),
         time: dice.pick(&[0, 1, 10, 60]),
         toll: dice.pick(&[0, 1, 3, 500, 65_535]),
         from: first_minute(dice, window),
@@ -127,13 +127,13 @@ pub fn largest(dice: &mut Dice) -> Network {
 pub fn eight_bands(dice: &mut Dice) -> Vec<Band> {
     let mut starts = vec![0];
     while starts.len() < 8 {
-        let start = dice.from_to(1, LAST_MINUTE);
+        let start = dice.between(1, LAST_MINUTE);
         if !starts.contains(&start) {
             starts.push(start);
         }
     }
     starts.sort_unstable();
-    starts.into_iter().map(|start| Band { start, toll: dice.from_to(0, 65_535) }).collect()
+    starts.into_iter().map(|start| Band { start, toll: dice.between(0, 65_535) }).collect()
 }
 
 /// Places in one line, so that the only plan has all the legs; some lines are dear, some free, some close into a circle.
@@ -160,7 +160,7 @@ pub fn chain(dice: &mut Dice, places: usize, time: u32, toll: u32) -> Network {
 /// A query inside the minutes of interest.
 pub fn query(dice: &mut Dice, net: &Network, from: u32, window: u32) -> Query {
     let last = LAST_MINUTE.min(from + window);
-    let (a, b) = (dice.from_to(from, last), dice.from_to(from, last));
+    let (a, b) = (dice.between(from, last), dice.between(from, last));
     let (earliest, latest) = match dice.below(4) {
         0 => (from, last),
         1 => (from, b),
@@ -172,7 +172,7 @@ pub fn query(dice: &mut Dice, net: &Network, from: u32, window: u32) -> Query {
 /// A query with something wrong in it, as often two things.
 pub fn bad_query(dice: &mut Dice, good: &Query, places: usize) -> Query {
     let mut query = *good;
-    for _ in 0..dice.from_to(1, 2) {
+    for _ in 0..dice.between(1, 2) {
         let place = dice.pick(&[places as u32, places as u32 + 1, 63, 64, 127, 1 << 16, 1 << 31, u32::MAX]);
         let minute = dice.pick(&[2_879, 2_880, 2_881, 4_095, 4_096, 1 << 16, 1 << 31, u32::MAX]);
         match dice.below(5) {

@@ -31,7 +31,7 @@ pub struct Network {
 impl Leg {
     /// The toll of the last band whose start is not later than the minute.
     pub fn toll_at(&self, minute: u32) -> u32 {
-        self.bands.iter().filter(|band| band.start <= minute).last().unwrap().toll
+        self.bands.iter().filter(|band| band.start <= minute).next_back().unwrap().toll
     }
 }
 

@@ -82,7 +82,11 @@ fn check_by_fields(file: &[u8]) -> Result<usize, u32> {
         }
         count += 4 + 2 * bands as usize;
     }
-    if clean_tail(file, at) { Ok(count) } else { Err(5) }
+    if clean_tail(file, at) {
+        Ok(count)
+    } else {
+        Err(5)
+    }
 }
 
 pub fn read_by_fields(file: &[u8], list: &mut [u32]) -> (u32, u32) {
@@ -173,7 +177,11 @@ fn check_by_groups(file: &[u8]) -> Result<usize, u32> {
         }
         count += 4 + 2 * bands as usize;
     }
-    if clean_tail(file, at) { Ok(count) } else { Err(5) }
+    if clean_tail(file, at) {
+        Ok(count)
+    } else {
+        Err(5)
+    }
 }
 
 pub fn read_by_groups(file: &[u8], list: &mut [u32]) -> (u32, u32) {
@@ -213,7 +221,11 @@ fn check_list(list: &[u32]) -> Result<usize, u32> {
     let mut rest = list.iter();
     let mut next = |low: u32, high: u32, fault: u32| -> Result<u32, u32> {
         let &value = rest.next().ok_or(1u32)?;
-        if value < low || value > high { Err(fault) } else { Ok(value) }
+        if value < low || value > high {
+            Err(fault)
+        } else {
+            Ok(value)
+        }
     };
     next(1, 1, 2)?;
     let places = next(1, 64, 3)?;
@@ -237,7 +249,11 @@ fn check_list(list: &[u32]) -> Result<usize, u32> {
         }
         bits += 28 * (1 + bands as usize);
     }
-    if rest.next().is_some() { Err(5) } else { Ok(bits.div_ceil(8)) }
+    if rest.next().is_some() {
+        Err(5)
+    } else {
+        Ok(bits.div_ceil(8))
+    }
 }
 
 /// Bits on their way into bytes, four bytes at a time.
@@ -358,13 +374,8 @@ pub fn decode(file: &[u8]) -> Result<Net, u32> {
     check_by_groups(file)?;
     let top = take(file, 0, 25);
     let count = (top & 1_023) as usize;
-    let mut net = Net {
-        places: (top >> 10 & 127) as usize,
-        count,
-        legs: [Leg::default(); 512],
-        first: [0; 65],
-        out: [0; 512],
-    };
+    let mut net =
+        Net { places: (top >> 10 & 127) as usize, count, legs: [Leg::default(); 512], first: [0; 65], out: [0; 512] };
     let mut at = 25;
     for leg in &mut net.legs[..count] {
         let all = take(file, at, 28);
@@ -755,5 +766,9 @@ pub fn gate(net: &[u8], plan: &[u8], sheet: &[u8]) -> u32 {
     }
     let end = query.end as usize;
     let value = steps.count[end].checked_sub(1).map(|last| steps.step(end, last).1);
-    if value == head.verdict.then_some(head.cost) { 0 } else { 15 }
+    if value == head.verdict.then_some(head.cost) {
+        0
+    } else {
+        15
+    }
 }

@@ -124,12 +124,8 @@ impl PlanFile {
             return None;
         }
         let verdict = file.take(1)? == 1;
-        let query = Query {
-            start: file.take(6)?,
-            end: file.take(6)?,
-            earliest: file.take(12)?,
-            latest: file.take(12)?,
-        };
+        let query =
+            Query { start: file.take(6)?, end: file.take(6)?, earliest: file.take(12)?, latest: file.take(12)? };
         let cost = file.take(32)?;
         let legs = file.take(12)? as usize;
         if legs > MOST_PLAN_LEGS || !verdict && (cost != 0 || legs != 0) {

@@ -283,7 +283,11 @@ pub fn two_step(net: &Net, query: &Query, how: Search) -> Option<Found> {
             let from = first[place];
             let cost = if place == start { 0 } else { NONE };
             let piece = Piece { from, to: query.latest, cost, settled: place == start };
-            if from == NONE { Vec::new() } else { vec![piece] }
+            if from == NONE {
+                Vec::new()
+            } else {
+                vec![piece]
+            }
         })
         .collect();
     let mut spare = Vec::new();

@@ -25,7 +25,7 @@ impl Sheet {
             let mut steps: Vec<Step> = Vec::new();
             for minute in query.earliest..=query.latest {
                 if let Some(cell) = table.at(place, minute) {
-                    if steps.last().map_or(true, |last| cell.cost < last.cost) {
+                    if steps.last().is_none_or(|last| cell.cost < last.cost) {
                         steps.push(Step { minute, cost: cell.cost });
                     }
                 }
@@ -63,7 +63,7 @@ impl Sheet {
             for _ in 0..count {
                 let step = Step { minute: file.take(12)?, cost: file.take(32)? };
                 let inside = query.earliest <= step.minute && step.minute <= query.latest;
-                let follows = row.last().map_or(true, |l| l.minute < step.minute && l.cost > step.cost);
+                let follows = row.last().is_none_or(|l| l.minute < step.minute && l.cost > step.cost);
                 if !inside || !follows {
                     return None;
                 }
@@ -76,7 +76,7 @@ impl Sheet {
 
     /// The cost of the last step at or before the minute.
     pub fn value(&self, place: usize, minute: u32) -> Option<u32> {
-        self.rows[place].iter().filter(|step| step.minute <= minute).last().map(|step| step.cost)
+        self.rows[place].iter().filter(|step| step.minute <= minute).next_back().map(|step| step.cost)
     }
 
     /// The value at each minute of the window.

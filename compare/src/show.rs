@@ -94,11 +94,9 @@ pub fn parse(text: &str) -> Case {
             table: numbers_of(value("table")),
             out: bytes_of(value("out")),
         },
-        "gate" => Case::Gate {
-            net: bytes_of(value("net")),
-            plan: bytes_of(value("plan")),
-            sheet: bytes_of(value("sheet")),
-        },
+        "gate" => {
+            Case::Gate { net: bytes_of(value("net")), plan: bytes_of(value("plan")), sheet: bytes_of(value("sheet")) }
+        }
         other => panic!("no call `{other}`"),
     }
 }

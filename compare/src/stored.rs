@@ -268,16 +268,12 @@ fn queries(dice: &mut Dice, count: usize) -> Vec<(Network, Query)> {
         let query = make::query(dice, &net, shape.from, shape.window);
         out.push((net, query));
     }
-    out.retain(|(net, query)| net.places * query.window() + 1 <= MOST_CELLS);
+    out.retain(|(net, query)| net.places * query.window() < MOST_CELLS);
     out
 }
 
 /// `call` makes the case; `need` says how long its file is.
-fn plan_cases(
-    dice: &mut Dice,
-    call: fn(&[u8], Query, usize, usize) -> Case,
-    need: fn(&Made) -> usize,
-) -> Vec<Case> {
+fn plan_cases(dice: &mut Dice, call: fn(&[u8], Query, usize, usize) -> Case, need: fn(&Made) -> usize) -> Vec<Case> {
     let mut out = Vec::new();
     for (k, (net, query)) in queries(dice, 70).into_iter().enumerate() {
         let file = network::file_of(&net);
@@ -303,7 +299,9 @@ fn plan_cases(
     for fields in fields_with_one_fault(&trial::network(), dice).into_iter().step_by(3).chain(bands_out_of_order()) {
         out.push(call(&pack(&fields), query, 20, 20));
     }
-    for bad in [trial::query(3, 2, 0, 40), trial::query(0, 3, 40, 0), trial::query(0, 2, 2_880, 0), trial::query(0, 2, 41, 40)] {
+    for bad in
+        [trial::query(3, 2, 0, 40), trial::query(0, 3, 40, 0), trial::query(0, 2, 2_880, 0), trial::query(0, 2, 41, 40)]
+    {
         out.push(call(&file, bad, 130, 40));
     }
     out
@@ -357,7 +355,12 @@ fn sheets_without_a_step() -> Vec<Case> {
 fn sums_past_32_bits() -> Vec<Case> {
     let mut net = one_leg();
     net.places = 3;
-    net.legs.push(Leg { from: 2, to: 1, time: 0, bands: vec![Band { start: 0, toll: 2 }, Band { start: 6, toll: 65_535 }] });
+    net.legs.push(Leg {
+        from: 2,
+        to: 1,
+        time: 0,
+        bands: vec![Band { start: 0, toll: 2 }, Band { start: 6, toll: 65_535 }],
+    });
     let query = trial::query(0, 1, 0, 9);
     let ours = Made::of(&net, query);
     let with = |cost: u32, minute: u32| {
@@ -457,7 +460,7 @@ pub fn make_files(folder: &str) -> i32 {
         std::fs::write(format!("{folder}/{name}.cases"), &pen.bytes).expect("the file can be written");
         println!("{name}.cases: {} cases, {} bytes; answer: cases  {}", cases.len(), pen.bytes.len(), told(&seen));
         let call = ALL.into_iter().find(|call| call.name() == name);
-        all_seen &= call.map_or(true, |call| call.answers().iter().all(|&n| seen[n as usize] > 0));
+        all_seen &= call.is_none_or(|call| call.answers().iter().all(|&n| seen[n as usize] > 0));
     }
     i32::from(!all_seen)
 }

@@ -36,7 +36,7 @@ impl Table {
     /// Lowers a cell; true if it changed.
     pub fn lower(&mut self, place: usize, minute: u32, to: Cell) -> bool {
         let index = self.index(place, minute);
-        let falls = self.cells[index].map_or(true, |held| to < held);
+        let falls = self.cells[index].is_none_or(|held| to < held);
         if falls {
             self.cells[index] = Some(to);
         }

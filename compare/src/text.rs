@@ -30,7 +30,7 @@ fn toll(word: &str) -> Result<u32, String> {
 
 /// Pairs of a start and a toll.
 fn bands(words: &[&str]) -> Result<Vec<Band>, String> {
-    if words.is_empty() || words.len() % 2 != 0 || words.len() > 2 * MOST_BANDS as usize {
+    if words.is_empty() || !words.len().is_multiple_of(2) || words.len() > 2 * MOST_BANDS as usize {
         return Err(format!("1 to {MOST_BANDS} pairs of a start and a toll are wanted"));
     }
     let mut out: Vec<Band> = Vec::new();

@@ -15,11 +15,8 @@ fn leg(from: usize, to: usize, time: u32, bands: &[(u32, u32)]) -> Leg {
 }
 
 pub fn network() -> Network {
-    let legs = vec![
-        leg(0, 1, 10, &[(0, 500), (60, 100)]),
-        leg(1, 2, 20, &[(0, 200), (80, 900)]),
-        leg(0, 2, 40, &[(0, 800)]),
-    ];
+    let legs =
+        vec![leg(0, 1, 10, &[(0, 500), (60, 100)]), leg(1, 2, 20, &[(0, 200), (80, 900)]), leg(0, 2, 40, &[(0, 800)])];
     Network { places: 3, legs }
 }
 
@@ -103,11 +100,7 @@ fn check_sheet() {
     let q = query(0, 2, 0, 120);
     let table = table::fill(&net, &q);
     let step = |minute, cost| Step { minute, cost };
-    let rows = vec![
-        vec![step(0, 0)],
-        vec![step(10, 500), step(70, 100)],
-        vec![step(30, 700), step(90, 300)],
-    ];
+    let rows = vec![vec![step(0, 0)], vec![step(10, 500), step(70, 100)], vec![step(30, 700), step(90, 300)]];
     assert_eq!(Sheet::of(3, &q, &table), Sheet { rows });
     let plan = table::named_plan(&net, &q, &table).unwrap();
     let file = PlanFile::of(q, 300, plan).bytes();

@@ -11,18 +11,8 @@ mod linked {
     use super::Reply;
 
     /// The type that the plan call and the sheet call share.
-    pub type Plan = unsafe extern "C" fn(
-        *const u8,
-        usize,
-        u32,
-        u32,
-        u32,
-        u32,
-        *mut u32,
-        usize,
-        *mut u8,
-        usize,
-    ) -> Reply;
+    pub type Plan =
+        unsafe extern "C" fn(*const u8, usize, u32, u32, u32, u32, *mut u32, usize, *mut u8, usize) -> Reply;
 
     extern "C" {
         pub fn haul_plan(
