@@ -1,16 +1,16 @@
 -- One band, by what was fetched: an outcome for each way through document 01's tests.
-use Prim.Native.Nat.{ℕ, _+_, _≤_, _<_}
-use mathlib.Core.Path.{_≡_, refl, sym, _∙_}
-use mathlib.Core.Bool.{Bool, true, false}
-use mathlib.Core.List.{List, [], _∷_}
+use Prim.Native.Nat.{ℕ, _<_}
+use mathlib.Core.Path.{_≡_}
+use mathlib.Core.Bool.{true, false}
+use mathlib.Core.List.{[], _∷_}
 use native.Mathlib.Omega.{arith}
-use lib.Dec.{leb, ltb}
-use borrow.Author.Tests.{lt-ltb, le-ltb}
+use lib.Dec.{leb}
+use borrow.Author.Tests.{lt-ltb}
 use Rattle.answer.specs.declared.Refusal.the-variants.{Short, Range, Order}
 use Rattle.leg.specs.Ranges.{lastMinute, mostCents, bandOf}
 use Rattle.source.specs.declared.Fields.{Fields}
 use Rattle.source.specs.Source.{Source, bandWidths, Fetched}
-use Rattle.network.specs.Reading.{Found, refused, found}
+use Rattle.network.specs.Reading.{refused, found}
 use Rattle.network.specs.Network.{follows, band}
 
 module _ (src : Source) (at least : ℕ) (f : Fields) (h : Fetched src at bandWidths (f .a ∷ f .b ∷ []) 0 (f .have) (f .after)) where

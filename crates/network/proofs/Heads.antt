@@ -1,16 +1,16 @@
 -- The head of a leg, by what was fetched: an outcome for each way through document 01's tests.
-use Prim.Native.Nat.{ℕ, _+_, _≤_, _<_}
-use mathlib.Core.Path.{_≡_, refl, sym, _∙_}
-use mathlib.Core.Bool.{Bool, true, false}
-use mathlib.Core.List.{List, [], _∷_}
+use Prim.Native.Nat.{ℕ, _≤_, _<_}
+use mathlib.Core.Path.{_≡_}
+use mathlib.Core.Bool.{true, false}
+use mathlib.Core.List.{[], _∷_}
 use native.Mathlib.Omega.{arith}
-use lib.Dec.{leb, ltb}
+use lib.Dec.{leb}
 use borrow.Author.Tests.{lt-ltb, le-ltb, le-leb, lt-leb}
 use Rattle.answer.specs.declared.Refusal.the-variants.{Short, Range}
 use Rattle.leg.specs.Ranges.{lastMinute, minute}
 use Rattle.source.specs.declared.Fields.{Fields}
 use Rattle.source.specs.Source.{Source, headWidths, Fetched}
-use Rattle.network.specs.Reading.{Found, refused, found}
+use Rattle.network.specs.Reading.{refused, found}
 use Rattle.network.specs.Network.{edition1, head}
 
 module _ (src : Source) (at places : ℕ) (f : Fields) (h : Fetched src at headWidths (f .a ∷ f .b ∷ f .c ∷ f .d ∷ []) 0 (f .have) (f .after)) where
@@ -34,9 +34,20 @@ module _ (src : Source) (at places : ℕ) (f : Fields) (h : Fetched src at headW
 
       pub head-long : 2 < f .have → leb (f .c) lastMinute ≡ false → head edition1 places src at ≡ refused Range
       head-long n r =
-          simp
-          (h .0, lt-ltb 0 (f .have) (omega arith), h .1, lt-ltb (f .a) places la, h .2 .0, lt-ltb 1 (f .have) (omega arith), h .2 .1, lt-ltb (f .b) places lb,
-          h .2 .2 .0, lt-ltb 2 (f .have) n, h .2 .2 .1, r)
+          simp (
+            h .0,
+            lt-ltb 0 (f .have) (omega arith),
+            h .1,
+            lt-ltb (f .a) places la,
+            h .2 .0,
+            lt-ltb 1 (f .have) (omega arith),
+            h .2 .1,
+            lt-ltb (f .b) places lb,
+            h .2 .2 .0,
+            lt-ltb 2 (f .have) n,
+            h .2 .2 .1,
+            r,
+          )
 
       module _ (lc : leb (f .c) lastMinute ≡ true) where
         pub head-three : f .have ≡ 3 → head edition1 places src at ≡ refused Short
@@ -46,20 +57,67 @@ module _ (src : Source) (at places : ℕ) (f : Fields) (h : Fetched src at headW
         module _ (n : 3 < f .have) where
           pub head-few : f .d < 1 → head edition1 places src at ≡ refused Range
           head-few r =
-              simp
-              (h .0, lt-ltb 0 (f .have) (omega arith), h .1, lt-ltb (f .a) places la, h .2 .0, lt-ltb 1 (f .have) (omega arith), h .2 .1, lt-ltb (f .b) places lb,
-              h .2 .2 .0, lt-ltb 2 (f .have) (omega arith), h .2 .2 .1, lc, h .2 .2 .2 .0, lt-ltb 3 (f .have) n, h .2 .2 .2 .1, lt-leb 1 (f .d) r)
+              simp (
+                h .0,
+                lt-ltb 0 (f .have) (omega arith),
+                h .1,
+                lt-ltb (f .a) places la,
+                h .2 .0,
+                lt-ltb 1 (f .have) (omega arith),
+                h .2 .1,
+                lt-ltb (f .b) places lb,
+                h .2 .2 .0,
+                lt-ltb 2 (f .have) (omega arith),
+                h .2 .2 .1,
+                lc,
+                h .2 .2 .2 .0,
+                lt-ltb 3 (f .have) n,
+                h .2 .2 .2 .1,
+                lt-leb 1 (f .d) r,
+              )
 
           pub head-many : 1 ≤ f .d → 8 < f .d → head edition1 places src at ≡ refused Range
           head-many l r =
-              simp
-              (h .0, lt-ltb 0 (f .have) (omega arith), h .1, lt-ltb (f .a) places la, h .2 .0, lt-ltb 1 (f .have) (omega arith), h .2 .1, lt-ltb (f .b) places lb,
-              h .2 .2 .0, lt-ltb 2 (f .have) (omega arith), h .2 .2 .1, lc, h .2 .2 .2 .0, lt-ltb 3 (f .have) n, h .2 .2 .2 .1, le-leb 1 (f .d) l, lt-leb (f .d) 8 r)
+              simp (
+                h .0,
+                lt-ltb 0 (f .have) (omega arith),
+                h .1,
+                lt-ltb (f .a) places la,
+                h .2 .0,
+                lt-ltb 1 (f .have) (omega arith),
+                h .2 .1,
+                lt-ltb (f .b) places lb,
+                h .2 .2 .0,
+                lt-ltb 2 (f .have) (omega arith),
+                h .2 .2 .1,
+                lc,
+                h .2 .2 .2 .0,
+                lt-ltb 3 (f .have) n,
+                h .2 .2 .2 .1,
+                le-leb 1 (f .d) l,
+                lt-leb (f .d) 8 r,
+              )
 
           pub head-sound : 1 ≤ f .d → f .d ≤ 8
               → head edition1 places src at ≡ found (record { from = f .a; to = f .b; time = minute (f .c); count = f .d }) (f .after)
           head-sound l r =
-              simp
-              (h .0, lt-ltb 0 (f .have) (omega arith), h .1, lt-ltb (f .a) places la, h .2 .0, lt-ltb 1 (f .have) (omega arith), h .2 .1, lt-ltb (f .b) places lb,
-              h .2 .2 .0, lt-ltb 2 (f .have) (omega arith), h .2 .2 .1, lc, h .2 .2 .2 .0, lt-ltb 3 (f .have) n, h .2 .2 .2 .1, le-leb 1 (f .d) l, le-leb (f .d) 8 r,
-              h .2 .2 .2 .2)
+              simp (
+                h .0,
+                lt-ltb 0 (f .have) (omega arith),
+                h .1,
+                lt-ltb (f .a) places la,
+                h .2 .0,
+                lt-ltb 1 (f .have) (omega arith),
+                h .2 .1,
+                lt-ltb (f .b) places lb,
+                h .2 .2 .0,
+                lt-ltb 2 (f .have) (omega arith),
+                h .2 .2 .1,
+                lc,
+                h .2 .2 .2 .0,
+                lt-ltb 3 (f .have) n,
+                h .2 .2 .2 .1,
+                le-leb 1 (f .d) l,
+                le-leb (f .d) 8 r,
+                h .2 .2 .2 .2,
+              )

@@ -11,6 +11,8 @@ use Rattle.network.specs.declared.Head.{Head}
 use Rattle.network.specs.declared.HeadFound.{HeadFound}
 use Rattle.network.specs.declared.Size.{Size}
 use Rattle.network.specs.declared.NetworkFound.{NetworkFound}
+use Rattle.network.specs.declared.Top.{Top}
+use Rattle.network.specs.declared.TopFound.{TopFound}
 use Rattle.network.specs.declared.Verdict.{Verdict}
 use Rattle.network.specs.declared.LegFound.{LegFound}
 use Rattle.network.specs.Reading.{Found, refused, found}
@@ -23,6 +25,10 @@ bandFound (found b at) = BandFound.Sound b at
 abbrev pub headFound : Found Head → HeadFound
 headFound (refused why) = HeadFound.Refused why
 headFound (found h at) = HeadFound.Sound h at
+
+abbrev pub topFound : Found Top → TopFound
+topFound (refused why) = TopFound.Refused why
+topFound (found t at) = TopFound.Sound t at
 
 -- a refused leg: all zeros
 abbrev pub noLeg : Leg

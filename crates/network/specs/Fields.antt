@@ -13,7 +13,6 @@ abbrev pub _bits:_ : ℕ → ℕ → Entry
 _bits:_ width value = record { width = width; value = value }
 
 infixl 20 _bits:_
-
 abbrev pub bandFields : Band → List Entry
 bandFields b = (12 bits: b .start .0) ∷ (16 bits: b .toll .0) ∷ []
 

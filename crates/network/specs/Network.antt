@@ -11,6 +11,7 @@ use Rattle.leg.specs.declared.Leg.{Leg}
 use Rattle.leg.specs.Ranges.{lastMinute, mostCents, minute, bandOf, noBands}
 use Rattle.source.specs.Source.{both, fileOf, listOf}
 use Rattle.network.specs.declared.Head.{Head}
+use Rattle.network.specs.declared.Top.{Top}
 use Rattle.network.specs.Reading.{Found, Reading, _>>=_, _>>_, give, pick, field, check, end}
 
 -- what differs between editions: the width of the band count, and how many bands a leg may have
@@ -81,18 +82,29 @@ legs form places (suc k) before = do
   l ← leg form places
   legs form places k (before ++ (l ∷ []))
 
--- a whole network
-abbrev pub network : Form → Reading Network
-network form = do
+-- the head of a network
+abbrev pub top : Reading Top
+top = do
   edition ← field 8
   check (eqb edition 1) Edition
   places ← field 7
   check (both (leb 1 places) (leb places 64)) Range
   count ← field 10
   check (leb count 512) Range
-  all ← legs form places count []
+  give (record { places = places; legs = count })
+
+-- the legs, and nothing after them
+abbrev pub body : Form → Top → Reading Network
+body form t = do
+  all ← legs form (t .places) (t .legs) []
   end
-  give (record { places = places; legs = all })
+  give (record { places = t .places; legs = all })
+
+-- a whole network
+abbrev pub network : Form → Reading Network
+network form = do
+  t ← top
+  body form t
 
 -- what the bytes of a file stand for
 abbrev pub ofFile : List ℕ → Found Network

@@ -20,7 +20,6 @@ next (refused why) k = refused why
 next (found a at) k = k a at
 
 infixl 1 _>>=_ _>>_
-
 -- one reading, then another that may go by what the first found
 abbrev pub _>>=_ : {A B : Type 0} → Reading A → (A → Reading B) → Reading B
 _>>=_ m k = λ src at. next (m src at) (λ a at′. k a src at′)

@@ -3,10 +3,15 @@ ghost use mathlib.Core.Path.{_≡_};
 ghost use Prim.Native.Nat.{_≤_};
 ghost use Rattle.source.specs.Source.{sourceOf};
 ghost use Rattle.network.specs.Reading.{refused};
-ghost use Rattle.network.specs.Network.{edition1, follows, band, bands, bare, head, leg, network};
-ghost use Rattle.network.specs.Answers.{bandFound, headFound, legFound, networkFound};
+ghost use Rattle.network.specs.Network.{edition1, follows, band, bands, bare, head, leg, top, body, network};
+ghost use Rattle.network.specs.Answers.{bandFound, headFound, topFound, legFound, networkFound};
 use answer::Refusal;
-use leg::{Band, Cents, CentsFound, Leg, Minute, MinuteFound};
+use leg::Band;
+use leg::Cents;
+use leg::CentsFound;
+use leg::Leg;
+use leg::Minute;
+use leg::MinuteFound;
 use source::Origin;
 
 // A band and the place after it, or why there is none.
@@ -40,6 +45,17 @@ pub struct LegFound {
     pub after: usize,
 }
 
+// The head of a network: how many places and how many legs.
+pub struct Top {
+    pub places: u32,
+    pub legs: usize,
+}
+
+pub enum TopFound {
+    Refused(Refusal),
+    Sound(Top, usize),
+}
+
 // How large a network is: its places, its legs, and the bands of all legs together.
 pub struct Size {
     pub places: u32,
@@ -52,11 +68,23 @@ pub enum NetworkFound {
     Sound(Size),
 }
 
+impl Top {
+    pub const EDITION: u32 = 1;
+
+    pub const MOST_PLACES: u32 = 64;
+
+    pub const MOST_LEGS: u32 = 512;
+}
+
 // The first band starts at 0, a later one above the one before.
 fn rises(least: u32, start: u32) -> bool
     ensures { λ r. ⌜ r ≡ follows least start ⌝ }
 {
-    if least == 0 { start == 0 } else { least <= start }
+    if least == 0 {
+        start == 0
+    } else {
+        least <= start
+    }
 }
 
 // One band: start, then toll.
@@ -83,7 +111,13 @@ pub fn band_from(origin: Origin, net: &[u8], list: &[u32], at: usize, least: u32
     let CentsFound::Within(price) = Cents::new(toll) else {
         return BandFound::Refused(Refusal::Range);
     };
-    BandFound::Sound(Band { start: from, toll: price }, fields.after)
+    BandFound::Sound(
+        Band {
+            start: from,
+            toll: price,
+        },
+        fields.after,
+    )
 }
 
 // The head of a leg: from, to, driving time, number of bands.
@@ -120,7 +154,12 @@ pub fn head_from(origin: Origin, net: &[u8], list: &[u32], at: usize, places: u3
     if Leg::MOST_BANDS < fields.d {
         return HeadFound::Refused(Refusal::Range);
     }
-    let head = Head { from: fields.a, to: fields.b, time, count: fields.d as usize };
+    let head = Head {
+        from: fields.a,
+        to: fields.b,
+        time,
+        count: fields.d as usize,
+    };
     HeadFound::Sound(head, fields.after)
 }
 
@@ -131,7 +170,13 @@ fn no_leg(why: Refusal) -> LegFound
     let bands = Band::places();
     LegFound {
         verdict: Verdict::Refused(why),
-        leg: Leg { from: 0, to: 0, time: Minute(0), bands, count: 0 },
+        leg: Leg {
+            from: 0,
+            to: 0,
+            time: Minute(0),
+            bands,
+            count: 0,
+        },
         after: 0,
     }
 }
@@ -139,9 +184,7 @@ fn no_leg(why: Refusal) -> LegFound
 // The bands of a leg, after its head.
 pub fn bands_from(origin: Origin, net: &[u8], list: &[u32], at: usize, head: Head) -> LegFound
     requires { ⌜ (at ≤ 900000) × (head .count ≤ 8) ⌝ }
-    ensures {
-        λ r. ⌜ r ≡ legFound (bands (head .count) 0 (bare edition1 head) (sourceOf origin (now (net .entry)) (now (list .entry))) at) ⌝
-    }
+    ensures { λ r. ⌜ r ≡ legFound (bands (head .count) 0 (bare edition1 head) (sourceOf origin (now (net .entry)) (now (list .entry))) at) ⌝ }
 {
     let count = head.count;
     let mut bands = Band::places();
@@ -165,7 +208,13 @@ pub fn bands_from(origin: Origin, net: &[u8], list: &[u32], at: usize, head: Hea
     let time = head.time;
     LegFound {
         verdict: Verdict::Sound,
-        leg: Leg { from: head.from, to: head.to, time, bands, count },
+        leg: Leg {
+            from: head.from,
+            to: head.to,
+            time,
+            bands,
+            count,
+        },
         after: place,
     }
 }
@@ -179,5 +228,82 @@ pub fn leg_from(origin: Origin, net: &[u8], list: &[u32], at: usize, places: u32
     match found {
         HeadFound::Refused(why) => no_leg(why),
         HeadFound::Sound(head, after) => bands_from(origin, net, list, after, head),
+    }
+}
+
+// The head of a network: edition, places, number of legs.
+pub fn top_from(origin: Origin, net: &[u8], list: &[u32]) -> TopFound
+    ensures { λ r. ⌜ r ≡ topFound (top (sourceOf origin (now (net .entry)) (now (list .entry))) 0) ⌝ }
+{
+    let fields = source::top(origin, net, list);
+    let have = fields.have;
+    if have == 0 {
+        return TopFound::Refused(Refusal::Short);
+    }
+    if fields.a != Top::EDITION {
+        return TopFound::Refused(Refusal::Edition);
+    }
+    if have == 1 {
+        return TopFound::Refused(Refusal::Short);
+    }
+    if fields.b < 1 {
+        return TopFound::Refused(Refusal::Range);
+    }
+    if Top::MOST_PLACES < fields.b {
+        return TopFound::Refused(Refusal::Range);
+    }
+    if have == 2 {
+        return TopFound::Refused(Refusal::Short);
+    }
+    if Top::MOST_LEGS < fields.c {
+        return TopFound::Refused(Refusal::Range);
+    }
+    let top = Top {
+        places: fields.b,
+        legs: fields.c as usize,
+    };
+    TopFound::Sound(top, fields.after)
+}
+
+// The legs of a network, and nothing after them.
+pub fn body_from(origin: Origin, net: &[u8], list: &[u32], at: usize, top: Top) -> NetworkFound
+    requires { ⌜ (at ≤ 1000) × (top .legs ≤ 512) ⌝ }
+    ensures { λ r. ⌜ r ≡ networkFound (body edition1 top (sourceOf origin (now (net .entry)) (now (list .entry))) at) ⌝ }
+{
+    let legs = top.legs;
+    let places = top.places;
+    let mut place = at;
+    let mut bands = 0;
+    let mut k = 0;
+    while k < legs {
+        let found = leg_from(origin, net, list, place, places);
+        let verdict = found.verdict;
+        if let Verdict::Refused(why) = verdict {
+            return NetworkFound::Refused(why);
+        }
+        let leg = found.leg;
+        place = found.after;
+        bands += leg.count;
+        k += 1;
+    }
+    if source::ends(origin, net, list, place) {
+        NetworkFound::Sound(Size {
+            places,
+            legs,
+            bands,
+        })
+    } else {
+        NetworkFound::Refused(Refusal::Tail)
+    }
+}
+
+// A whole network: what a file or a list of numbers stands for, and how large it is.
+pub fn network_from(origin: Origin, net: &[u8], list: &[u32]) -> NetworkFound
+    ensures { λ r. ⌜ r ≡ networkFound (network edition1 (sourceOf origin (now (net .entry)) (now (list .entry))) 0) ⌝ }
+{
+    let found = top_from(origin, net, list);
+    match found {
+        TopFound::Refused(why) => NetworkFound::Refused(why),
+        TopFound::Sound(top, after) => body_from(origin, net, list, after, top),
     }
 }

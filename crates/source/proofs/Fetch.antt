@@ -5,7 +5,7 @@ use mathlib.Core.List.{List, [], _∷_}
 use native.Mathlib.Nat.{add-assoc}
 use lib.ListN.{length}
 use Rattle.bits.specs.Field.{field}
-use Rattle.bits.proofs.Fields.{field-first, field-last, field-middle}
+use Rattle.bits.proofs.Fields.{part-first, part-last, part-middle}
 use Rattle.source.specs.declared.Fields.{Fields}
 use Rattle.source.specs.Source.{fileOf, listOf, topWidths, headWidths, bandWidths, Whole, Fetched, Listed}
 
@@ -14,8 +14,8 @@ module _ (s : List ℕ) (x have : ℕ) where
       → Fetched (fileOf s) 0 topWidths (x / 131072 ∷ x / 1024 % 128 ∷ x % 1024 ∷ []) 0 have 25
   file-top w e = (
     w .one,
-    rw e (field-first s 0 8 17),
-    (w .two, rw e (field-middle s 0 8 7 10), (w .three, rw e (field-last s 0 15 10), refl)),
+    sym (part-first s 0 8 17 e),
+    (w .two, sym (part-middle s 0 8 7 10 e), (w .three, sym (part-last s 0 15 10 e), refl)),
   )
 
 module _ (s : List ℕ) (at x have : ℕ) where
@@ -24,18 +24,18 @@ module _ (s : List ℕ) (at x have : ℕ) where
   file-head w e =
       rw (add-assoc at 6 6, add-assoc at 12 12, add-assoc at 24 4) (
         w .one,
-        rw e (field-first s at 6 22),
+        sym (part-first s at 6 22 e),
         (
           w .two,
-          rw e (field-middle s at 6 6 16),
-          (w .three, rw e (field-middle s at 12 12 4), (w .four, rw e (field-last s at 24 4), refl)),
+          sym (part-middle s at 6 6 16 e),
+          (w .three, sym (part-middle s at 12 12 4 e), (w .four, sym (part-last s at 24 4 e), refl)),
         ),
       )
 
   pub file-band : Whole (8 * length s) at 12 28 28 28 have → x ≡ field s at 28
       → Fetched (fileOf s) at bandWidths (x / 65536 ∷ x % 65536 ∷ []) 0 have (at + 28)
   file-band w e =
-      rw (add-assoc at 12 16) (w .one, rw e (field-first s at 12 16), (w .two, rw e (field-last s at 12 16), refl))
+      rw (add-assoc at 12 16) (w .one, sym (part-first s at 12 16 e), (w .two, sym (part-last s at 12 16 e), refl))
 
 module _ (l : List ℕ) (at : ℕ) (r : Fields) where
   pub list-top : Listed l at 3 r → Fetched (listOf l) at topWidths (r .a ∷ r .b ∷ r .c ∷ []) 0 (r .have) (r .after)

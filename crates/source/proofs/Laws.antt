@@ -1,16 +1,17 @@
 -- Tests that say the same, and fields that reach past the end of a file.
-use Prim.Native.Nat.{ℕ, suc, _+_, _-_, _*_, _/_, _%_, _^_, _≤_, _<_}
+use Prim.Native.Nat.{ℕ, suc, _+_, _-_, _*_, _%_, _^_, _≤_, _<_}
 use mathlib.Core.Path.{_≡_, refl, sym, _∙_}
 use mathlib.Core.Bool.{Bool, true, false}
 use mathlib.Core.List.{List}
-use native.Mathlib.Nat.{add-zero, zero-div, mod-eq-of-lt, lt-of-lt-of-le}
+use native.Mathlib.Nat.{add-zero, mod-eq-of-lt, lt-of-lt-of-le}
 use native.Mathlib.Omega.{arith}
 use borrow.Author.Tests.{leb-true, leb-false, le-leb, lt-leb}
 use lib.Dec.{leb, ltb}
 use lib.Pow.{pow-mono}
-use lib.ListN.{length, List·getD-eq-default}
-use Rattle.bits.specs.Field.{bit, field}
+use lib.ListN.{length}
+use Rattle.bits.specs.Field.{field}
 use Rattle.source.specs.Source.{Whole}
+use Rattle.bits.proofs.Bytes.{bit-past}
 use Rattle.bits.proofs.Fields.{field-split, field-zero, field-below}
 
 pub leb-same : (a b c d : ℕ) → (a ≤ b → c ≤ d) → (c ≤ d → a ≤ b) → leb a b ≡ leb c d
@@ -23,10 +24,6 @@ leb-same a b c d to from = go (leb a b) refl
         back : (t : Bool) → leb c d ≡ t → d < c
         back true q = let h = from (leb-true c d q) in let l = leb-false a b e in omega arith
         back false q = leb-false c d q
-
-bit-past : (s : List ℕ) (p : ℕ) → 8 * length s ≤ p → bit s p ≡ 0
-unfolding bit
-bit-past s p h = rw (List·getD-eq-default s 0 {n = p / 8} (omega arith), zero-div)
 
 pub field-past : (s : List ℕ) (at w : ℕ) → 8 * length s ≤ at → field s at w ≡ 0
 field-past s at w h = field-zero s at w (λ p l m. bit-past s p (omega arith))

@@ -1,8 +1,5 @@
-use Prim.Native.Nat.{ℕ, _+_, _-_, _*_, _≤_, _<_}
 use native.Mathlib.Omega.{arith}
-use mathlib.Core.Path.{_≡_, refl, sym, ap, _∙_}
-use mathlib.Core.Logic.{⊎-elim}
-use lib.ListN.{length, getD, set, length-set}
+use mathlib.Core.Path.{sym, ap, _∙_}
 use borrow.Author.Needs.{needs}
 use lib.Dec.{leb}
 use borrow.Author.Tests.{not-true, not-false}
@@ -13,48 +10,34 @@ use Rattle.network.specs.Answers.{bandFound}
 use Rattle.network.proofs.Bands.{band-none, band-late, band-order, band-cut, band-dear, band-sound}
 use Rattle.network.proofs.band_from.Statement.{statement}
 use Rattle.network.proofs.band_from.Tie as tie
-use Rattle.network.proofs.band_from.Reads as reads
-use Rattle.network.proofs.band_from.Lts as lts
-use Rattle.leg.proofs.Cents.new.Reads as Cents-new-reads
-use Rattle.leg.proofs.Minute.new.Reads as Minute-new-reads
-use Rattle.network.proofs.rises.Reads as rises-reads
-use Rattle.source.proofs.band.Reads as band-reads
 
--- src/lib.rt:41:9
 band-requires : tie.Need-band-requires
 band-requires c κs = search needs
 
--- src/lib.rt:46:9
 returns : tie.Need-returns
 returns c =
     let a = c .before .before .before .before .args in
     let f = c .before .band in
     sym (ap bandFound (band-none (sourceOf (a .origin) (a .net .now) (a .list .now)) (a .at) (a .least) (f .result) (f .ensures) (c .if1 .taken)))
 
--- src/lib.rt:48:37
 new-requires : tie.Need-new-requires
 new-requires c κs = search needs
 
--- src/lib.rt:48:29
 enum-known-from : tie.Need-enum-known-from
 enum-known-from c = search needs
 
--- src/lib.rt:49:35
 enum-told : tie.Need-enum-told
 enum-told c = search needs
 
--- src/lib.rt:49:9
 returns-2 : tie.Need-returns-2
 returns-2 c =
     let a = c .before .before .before .before .before .before .before .args in
     let f = c .before .before .before .before .band in
     sym (ap bandFound (band-late (sourceOf (a .origin) (a .net .now) (a .list .now)) (a .at) (a .least) (f .result) (f .ensures) (omega (arith, c .before .before .before .if1 .left)) (minute-beyond (leb (f .result .a) lastMinute) (f .result .a) (sym (c .before .before .new .ensures) ∙ c .enum-told .given .1))))
 
--- src/lib.rt:51:9
 rises-requires : tie.Need-rises-requires
 rises-requires c κs = search needs
 
--- src/lib.rt:52:9
 returns-3 : tie.Need-returns-3
 returns-3 c =
     let a = c .before .before .before .before .before .before .before .before .before .before .args in
@@ -62,7 +45,6 @@ returns-3 c =
     let m = minute-within (leb (f .result .a) lastMinute) (f .result .a) (c .before .before .before .from .given .0 .0) (sym (c .before .before .before .before .before .new .ensures) ∙ c .before .before .before .from .given .1) in
     sym (ap bandFound (band-order (sourceOf (a .origin) (a .net .now) (a .list .now)) (a .at) (a .least) (f .result) (f .ensures) (omega (arith, c .before .before .before .before .before .before .if1 .left)) (m .0) (sym (c .before .rises .ensures) ∙ not-true _ (c .if2 .taken))))
 
--- src/lib.rt:55:9
 returns-4 : tie.Need-returns-4
 returns-4 c =
     let a = c .before .before .before .before .before .before .before .before .before .before .before .args in
@@ -70,19 +52,15 @@ returns-4 c =
     let m = minute-within (leb (f .result .a) lastMinute) (f .result .a) (c .before .before .before .before .from .given .0 .0) (sym (c .before .before .before .before .before .before .new .ensures) ∙ c .before .before .before .before .from .given .1) in
     sym (ap bandFound (band-cut (sourceOf (a .origin) (a .net .now) (a .list .now)) (a .at) (a .least) (f .result) (f .ensures) (c .if3 .taken) (m .0) (sym (c .before .before .rises .ensures) ∙ not-false _ (c .before .if2 .left))))
 
--- src/lib.rt:57:37
 new-requires-2 : tie.Need-new-requires-2
 new-requires-2 c κs = search needs
 
--- src/lib.rt:57:28
 enum-known-price : tie.Need-enum-known-price
 enum-known-price c = search needs
 
--- src/lib.rt:58:35
 enum-told-2 : tie.Need-enum-told-2
 enum-told-2 c = search needs
 
--- src/lib.rt:58:9
 returns-5 : tie.Need-returns-5
 returns-5 c =
     let a = c .before .before .before .before .before .before .before .before .before .before .before .before .before .before .args in
@@ -90,7 +68,6 @@ returns-5 c =
     let m = minute-within (leb (f .result .a) lastMinute) (f .result .a) (c .before .before .before .before .before .before .before .from .given .0 .0) (sym (c .before .before .before .before .before .before .before .before .before .new .ensures) ∙ c .before .before .before .before .before .before .before .from .given .1) in
     sym (ap bandFound (band-dear (sourceOf (a .origin) (a .net .now) (a .list .now)) (a .at) (a .least) (f .result) (f .ensures) (omega (arith, c .before .before .before .before .before .before .before .before .before .before .if1 .left, c .before .before .before .if3 .left)) (m .0) (sym (c .before .before .before .before .before .rises .ensures) ∙ not-false _ (c .before .before .before .before .if2 .left)) (cents-beyond (leb (f .result .b) mostCents) (f .result .b) (sym (c .before .before .new2 .ensures) ∙ c .enum-told2 .given .1))))
 
--- src/lib.rt:37:1
 returns-6 : tie.Need-returns-6
 returns-6 c =
     let a = c .before .before .before .before .before .before .before .before .before .before .before .before .before .before .before .args in

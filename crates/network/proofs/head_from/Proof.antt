@@ -1,8 +1,5 @@
-use Prim.Native.Nat.{ℕ, _+_, _-_, _*_, _≤_, _<_}
 use native.Mathlib.Omega.{arith}
-use mathlib.Core.Path.{_≡_, refl, sym, ap, _∙_}
-use mathlib.Core.Logic.{⊎-elim}
-use lib.ListN.{length, getD, set, length-set}
+use mathlib.Core.Path.{sym, ap, _∙_}
 use borrow.Author.Needs.{needs}
 use lib.Dec.{leb}
 use Rattle.leg.specs.Ranges.{lastMinute}
@@ -12,70 +9,55 @@ use Rattle.network.specs.Answers.{headFound}
 use Rattle.network.proofs.Heads.{head-none, head-far, head-one, head-away, head-two, head-long, head-three, head-few, head-many, head-sound}
 use Rattle.network.proofs.head_from.Statement.{statement}
 use Rattle.network.proofs.head_from.Tie as tie
-use Rattle.network.proofs.head_from.Reads as reads
-use Rattle.network.proofs.head_from.Lts as lts
-use Rattle.leg.proofs.Minute.new.Reads as new-reads
-use Rattle.source.proofs.head.Reads as head-reads
 
--- src/lib.rt:94:9
 head-requires : tie.Need-head-requires
 head-requires c κs = search needs
 
--- src/lib.rt:97:9
 returns : tie.Need-returns
 returns c =
     let a = c .before .before .before .before .args in
     let f = c .before .head in
     sym (ap headFound (head-none (sourceOf (a .origin) (a .net .now) (a .list .now)) (a .at) (a .places) (f .result) (f .ensures) (c .if1 .taken)))
 
--- src/lib.rt:100:9
 returns-2 : tie.Need-returns-2
 returns-2 c =
     let a = c .before .before .before .before .before .before .args in
     let f = c .before .before .before .head in
     sym (ap headFound (head-far (sourceOf (a .origin) (a .net .now) (a .list .now)) (a .at) (a .places) (f .result) (f .ensures) (omega (arith, c .before .before .if1 .left)) (c .if2 .taken)))
 
--- src/lib.rt:103:9
 returns-3 : tie.Need-returns-3
 returns-3 c =
     let a = c .before .before .before .before .before .before .before .args in
     let f = c .before .before .before .before .head in
     sym (ap headFound (head-one (sourceOf (a .origin) (a .net .now) (a .list .now)) (a .at) (a .places) (f .result) (f .ensures) (c .before .if2 .left) (c .if3 .taken)))
 
--- src/lib.rt:106:9
 returns-4 : tie.Need-returns-4
 returns-4 c =
     let a = c .before .before .before .before .before .before .before .before .before .args in
     let f = c .before .before .before .before .before .before .head in
     sym (ap headFound (head-away (sourceOf (a .origin) (a .net .now) (a .list .now)) (a .at) (a .places) (f .result) (f .ensures) (c .before .before .before .if2 .left) (omega (arith, c .before .before .before .before .before .if1 .left, c .before .before .if3 .left)) (c .if4 .taken)))
 
--- src/lib.rt:109:9
 returns-5 : tie.Need-returns-5
 returns-5 c =
     let a = c .before .before .before .before .before .before .before .before .before .before .args in
     let f = c .before .before .before .before .before .before .before .head in
     sym (ap headFound (head-two (sourceOf (a .origin) (a .net .now) (a .list .now)) (a .at) (a .places) (f .result) (f .ensures) (c .before .before .before .before .if2 .left) (c .before .if4 .left) (c .if5 .taken)))
 
--- src/lib.rt:111:37
 new-requires : tie.Need-new-requires
 new-requires c κs = search needs
 
--- src/lib.rt:111:29
 enum-known-time : tie.Need-enum-known-time
 enum-known-time c = search needs
 
--- src/lib.rt:112:35
 enum-told : tie.Need-enum-told
 enum-told c = search needs
 
--- src/lib.rt:112:9
 returns-6 : tie.Need-returns-6
 returns-6 c =
     let a = c .before .before .before .before .before .before .before .before .before .before .before .before .before .args in
     let f = c .before .before .before .before .before .before .before .before .before .before .head in
     sym (ap headFound (head-long (sourceOf (a .origin) (a .net .now) (a .list .now)) (a .at) (a .places) (f .result) (f .ensures) (c .before .before .before .before .before .before .before .if2 .left) (c .before .before .before .before .if4 .left) (omega (arith, c .before .before .before .before .before .before .before .before .before .if1 .left, c .before .before .before .before .before .before .if3 .left, c .before .before .before .if5 .left)) (minute-beyond (leb (f .result .c) lastMinute) (f .result .c) (sym (c .before .before .new .ensures) ∙ c .enum-told .given .1))))
 
--- src/lib.rt:115:9
 returns-7 : tie.Need-returns-7
 returns-7 c =
     let a = c .before .before .before .before .before .before .before .before .before .before .before .before .before .before .before .args in
@@ -83,7 +65,6 @@ returns-7 c =
     let m = minute-within (leb (f .result .c) lastMinute) (f .result .c) (c .before .before .time .given .0 .0) (sym (c .before .before .before .before .new .ensures) ∙ c .before .before .time .given .1) in
     sym (ap headFound (head-three (sourceOf (a .origin) (a .net .now) (a .list .now)) (a .at) (a .places) (f .result) (f .ensures) (c .before .before .before .before .before .before .before .before .before .if2 .left) (c .before .before .before .before .before .before .if4 .left) (m .0) (c .if6 .taken)))
 
--- src/lib.rt:118:9
 returns-8 : tie.Need-returns-8
 returns-8 c =
     let a = c .before .before .before .before .before .before .before .before .before .before .before .before .before .before .before .before .before .args in
@@ -91,7 +72,6 @@ returns-8 c =
     let m = minute-within (leb (f .result .c) lastMinute) (f .result .c) (c .before .before .before .before .time .given .0 .0) (sym (c .before .before .before .before .before .before .new .ensures) ∙ c .before .before .before .before .time .given .1) in
     sym (ap headFound (head-few (sourceOf (a .origin) (a .net .now) (a .list .now)) (a .at) (a .places) (f .result) (f .ensures) (c .before .before .before .before .before .before .before .before .before .before .before .if2 .left) (c .before .before .before .before .before .before .before .before .if4 .left) (m .0) (omega (arith, c .before .before .before .before .before .before .before .before .before .before .before .before .before .if1 .left, c .before .before .before .before .before .before .before .before .before .before .if3 .left, c .before .before .before .before .before .before .before .if5 .left, c .before .before .if6 .left)) (c .if7 .taken)))
 
--- src/lib.rt:121:9
 returns-9 : tie.Need-returns-9
 returns-9 c =
     let a = c .before .before .before .before .before .before .before .before .before .before .before .before .before .before .before .before .before .before .before .args in
@@ -99,11 +79,9 @@ returns-9 c =
     let m = minute-within (leb (f .result .c) lastMinute) (f .result .c) (c .before .before .before .before .before .before .time .given .0 .0) (sym (c .before .before .before .before .before .before .before .before .new .ensures) ∙ c .before .before .before .before .before .before .time .given .1) in
     sym (ap headFound (head-many (sourceOf (a .origin) (a .net .now) (a .list .now)) (a .at) (a .places) (f .result) (f .ensures) (c .before .before .before .before .before .before .before .before .before .before .before .before .before .if2 .left) (c .before .before .before .before .before .before .before .before .before .before .if4 .left) (m .0) (omega (arith, c .before .before .before .before .before .before .before .before .before .before .before .before .before .before .before .if1 .left, c .before .before .before .before .before .before .before .before .before .before .before .before .if3 .left, c .before .before .before .before .before .before .before .before .before .if5 .left, c .before .before .before .before .if6 .left)) (c .before .before .if7 .left) (c .if8 .taken)))
 
--- src/lib.rt:123:66
 cast-t21 : tie.Need-cast-t21
 cast-t21 c = search needs
 
--- src/lib.rt:90:1
 returns-10 : tie.Need-returns-10
 returns-10 c =
     let a = c .before .before .before .before .before .before .before .before .before .before .before .before .before .before .before .before .before .before .before .before .args in
