@@ -193,6 +193,9 @@ impl Bench {
             if archive::has(Call::Write) {
                 self.write_row(&net, &size);
             }
+            if largest {
+                self.tests_only(&net, &size);
+            }
         }
     }
 
@@ -221,6 +224,43 @@ impl Bench {
             );
             let asked = if largest && k == 0 { Asked::AtMost(1.5) } else { Asked::Nothing };
             self.row("read", name, size, times, asked);
+        }
+    }
+
+    /// The tests alone: with no room the answer is 9, and nothing is written.
+    fn tests_only(&self, net: &Network, size: &str) {
+        let (file, list) = (network::file_of(net), network::list_of(net));
+        if archive::has(Call::Read) {
+            let ours = || black_box(archive::read(black_box(&file), &mut []).number);
+            let other = || black_box(plain::read_by_fields(black_box(&file), &mut [])).0;
+            assert_eq!((ours(), other()), (9, 9));
+            let times = measure(
+                self.budget,
+                || (),
+                || {
+                    ours();
+                },
+                || {
+                    other();
+                },
+            );
+            self.row("read, no room", "plain Rust, one 64-bit load a field", size, times, Asked::Nothing);
+        }
+        if archive::has(Call::Write) {
+            let ours = || black_box(archive::write(black_box(&list), &mut []).number);
+            let other = || black_box(plain::write(black_box(&list), &mut [])).0;
+            assert_eq!((ours(), other()), (9, 9));
+            let times = measure(
+                self.budget,
+                || (),
+                || {
+                    ours();
+                },
+                || {
+                    other();
+                },
+            );
+            self.row("write, no room", "plain Rust, 64-bit shifts", size, times, Asked::Nothing);
         }
     }
 
