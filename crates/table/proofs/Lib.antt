@@ -1,0 +1,4 @@
+pub mod Rides
+pub mod Keeping
+pub mod Riding
+pub mod Clean
