@@ -42,5 +42,28 @@ pub record Visiting (N : Network) (q : Query) (cells low row : List ℕ) (p x l 
 
 -- cells that have not risen; and either some have fallen or no place has anything new to pass on
 pub record Onward (cells cells′ low low′ : List ℕ) : Type 0 where
+  pub long : length low′ ≡ length low
   pub falls : sum cells′ ≤ sum cells
   pub noted : (low′ ≡ low) ⊎ (sum cells′ < sum cells)
+
+-- no place has anything new to pass on
+pub record Clean (N : Network) (q : Query) (cells low : List ℕ) : Type 0 where
+  pub kept : Kept N q cells low Never
+  pub clean : (p : ℕ) → p < N .places → width q ≤ at low p
+
+-- a visit of p: what p had to pass on is passed on
+pub record Visited (N : Network) (q : Query) (cells cells′ low low′ : List ℕ) : Type 0 where
+  pub kept : Kept N q cells′ low′ Never
+  pub onward : Onward cells cells′ low low′
+
+-- the first of the places from..until whose first changed column lies below w
+pub record FirstNew (low : List ℕ) (from until w first : ℕ) : Type 0 where
+  pub within : (from ≤ first) × (first ≤ until)
+  pub passed : (p : ℕ) → from ≤ p → p < first → w ≤ at low p
+  pub new : first < until → at low first < w
+
+-- a place whose first changed column lies below w, or none
+pub record NextNew (low : List ℕ) (places w next : ℕ) : Type 0 where
+  pub within : next ≤ places
+  pub none : places ≤ next → (p : ℕ) → p < places → w ≤ at low p
+  pub new : next < places → at low next < w
