@@ -6,3 +6,4 @@ pub mod InFile
 pub mod Legs
 pub mod Chaining
 pub mod Sweeps
+pub mod Visits

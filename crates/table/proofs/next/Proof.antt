@@ -1,3 +1,4 @@
+use Rattle.table.proofs.Visits.{next-behind, next-none}
 use Prim.Native.Nat.{ℕ, _+_, _-_, _*_, _≤_, _<_}
 use native.Mathlib.Omega.{arith}
 use mathlib.Core.Path.{_≡_, refl, sym, ap, _∙_}
@@ -24,11 +25,15 @@ first-new-requires-2 c κs = search needs
 
 -- src/lib.rt:186:9
 returns-2 : tie.Need-returns-2
-returns-2 c = ?
+returns-2 c =
+    let a = c .before .before .before .before .before .args in
+    next-behind (a .low .now) (a .p) (a .places) (a .w) (c .before .before .before .first-new .result) (c .before .before .before .first-new .ensures) (c .before .first-new2 .result) (c .before .first-new2 .ensures) (omega arith) (omega arith) (c .if2 .taken)
 
 -- src/lib.rt:176:1
 returns-3 : tie.Need-returns-3
-returns-3 c = ?
+returns-3 c =
+    let a = c .before .before .before .before .before .args in
+    next-none (a .low .now) (a .p) (a .places) (a .w) (c .before .before .before .first-new .result) (c .before .before .before .first-new .ensures) (c .before .first-new2 .result) (c .before .first-new2 .ensures) (omega arith) (omega arith) (c .if2 .left)
 
 pub next-spec : {M : Type 1} → statement M
 next-spec =

@@ -1,3 +1,4 @@
+use Rattle.table.proofs.Visits.{in-low, visit-room, visit-begins, visit-done}
 use Prim.Native.Nat.{ℕ, _+_, _-_, _*_, _≤_, _<_}
 use native.Mathlib.Omega.{arith}
 use mathlib.Core.Path.{_≡_, refl, sym, ap, _∙_}
@@ -22,7 +23,7 @@ mul-from c = search needs
 
 -- src/lib.rt:154:16
 slice-read-from : tie.Need-slice-read-from
-slice-read-from c = ?
+slice-read-from c = in-low (c .before .before .before .before .before .before .args .net .now) (c .before .before .before .before .before .before .args .size) (c .before .before .before .before .before .before .args .ask) (c .before .before .before .before .before .before .args .chart .now) (c .before .before .before .before .before .before .args .last .now) (c .before .before .before .before .before .before .args .before .now) (c .before .before .before .before .before .before .pre .0) (c .before .before .before .before .before .before .args .p) (c .before .before .before .before .before .before .pre .1) (c .before .before .before .before .before .before .args .cells .now) (c .before .before .before .before .before .before .args .low .now) (c .before .before .before .before .before .before .pre .4) (c .before .width .result) (c .before .width .ensures)
 
 -- src/lib.rt:155:5
 mul-low : tie.Need-mul-low
@@ -30,15 +31,20 @@ mul-low c = search needs
 
 -- src/lib.rt:155:5
 slice-write-low : tie.Need-slice-write-low
-slice-write-low c = ?
+slice-write-low c = in-low (c .before .before .before .before .before .before .args .net .now) (c .before .before .before .before .before .before .args .size) (c .before .before .before .before .before .before .args .ask) (c .before .before .before .before .before .before .args .chart .now) (c .before .before .before .before .before .before .args .last .now) (c .before .before .before .before .before .before .args .before .now) (c .before .before .before .before .before .before .pre .0) (c .before .before .before .before .before .before .args .p) (c .before .before .before .before .before .before .pre .1) (c .before .before .before .before .before .before .args .cells .now) (c .before .before .before .before .before .before .args .low .now) (c .before .before .before .before .before .before .pre .4) (c .before .width .result) (c .before .width .ensures)
 
 -- src/lib.rt:156:5
 settle-row-requires : tie.Need-settle-row-requires
-settle-row-requires c κs = ?
+settle-row-requires c κs = (visit-room (c .before .before .before .before .before .before .before .before .args .net .now) (c .before .before .before .before .before .before .before .before .args .size) (c .before .before .before .before .before .before .before .before .args .ask) (c .before .before .before .before .before .before .before .before .args .chart .now) (c .before .before .before .before .before .before .before .before .args .last .now) (c .before .before .before .before .before .before .before .before .args .before .now) (c .before .before .before .before .before .before .before .before .pre .0) (c .before .before .before .before .before .before .before .before .args .p) (c .before .before .before .before .before .before .before .before .pre .1) (c .before .before .before .before .before .before .before .before .args .cells .now) (c .before .before .before .before .before .before .before .before .args .low .now) (c .before .before .before .before .before .before .before .before .pre .4) (c .before .before .before .width .result) (c .before .before .before .width .ensures), omega (arith, c .before .before .before .before .before .before .before .before .pre .3, c .before .before .before .width .ensures), omega (arith, c .before .before .before .before .before .before .before .before .pre .2, c .before .before .before .width .ensures))
 
 -- src/lib.rt:157:5
 ride-legs-requires : tie.Need-ride-legs-requires
-ride-legs-requires c κs = ?
+ride-legs-requires c κs = (
+  c .before .before .before .before .before .before .before .before .before .before .before .before .before .before .before .before .pre .0,
+  c .before .before .before .before .before .before .before .before .before .before .before .before .before .before .before .before .pre .1,
+  omega (arith, c .before .before .before .before .before .before .before .before .before .before .before .before .before .before .before .before .pre .2, c .before .before .before .before .before .before .before .settle-row .kept .1 .1 .1 .1 .0),
+  visit-begins (c .before .before .before .before .before .before .before .before .before .before .before .before .before .before .before .before .args .net .now) (c .before .before .before .before .before .before .before .before .before .before .before .before .before .before .before .before .args .size) (c .before .before .before .before .before .before .before .before .before .before .before .before .before .before .before .before .args .ask) (c .before .before .before .before .before .before .before .before .before .before .before .before .before .before .before .before .args .chart .now) (c .before .before .before .before .before .before .before .before .before .before .before .before .before .before .before .before .args .last .now) (c .before .before .before .before .before .before .before .before .before .before .before .before .before .before .before .before .args .before .now) (c .before .before .before .before .before .before .before .before .before .before .before .before .before .before .before .before .pre .0) (c .before .before .before .before .before .before .before .before .before .before .before .before .before .before .before .before .args .p) (c .before .before .before .before .before .before .before .before .before .before .before .before .before .before .before .before .pre .1) (c .before .before .before .before .before .before .before .before .before .before .before .before .before .before .before .before .args .cells .now) (c .before .before .before .before .before .before .before .before .before .before .before .before .before .before .before .before .args .low .now) (c .before .before .before .before .before .before .before .before .before .before .before .before .before .before .before .before .pre .4) (c .before .before .before .before .before .before .before .before .before .before .before .width .result) (c .before .before .before .before .before .before .before .before .before .before .before .width .ensures) _ _ (c .before .before .before .before .before .before .before .settle-row .ensures),
+)
 
 -- src/lib.rt:149:1
 same-length : tie.Need-same-length
@@ -50,11 +56,11 @@ same-length-2 c = search needs
 
 -- src/lib.rt:149:1
 same-length-3 : tie.Need-same-length-3
-same-length-3 c = ?
+same-length-3 c = c .before .before .before .before .ride-legs .ensures .onward .long ∙ simp length-set
 
 -- src/lib.rt:149:1
 returns : tie.Need-returns
-returns c = ?
+returns c = visit-done (c .before .before .before .before .before .before .before .before .before .before .before .before .before .before .before .before .before .before .before .before .before .args .net .now) (c .before .before .before .before .before .before .before .before .before .before .before .before .before .before .before .before .before .before .before .before .before .args .size) (c .before .before .before .before .before .before .before .before .before .before .before .before .before .before .before .before .before .before .before .before .before .args .ask) (c .before .before .before .before .before .before .before .before .before .before .before .before .before .before .before .before .before .before .before .before .before .args .chart .now) (c .before .before .before .before .before .before .before .before .before .before .before .before .before .before .before .before .before .before .before .before .before .args .last .now) (c .before .before .before .before .before .before .before .before .before .before .before .before .before .before .before .before .before .before .before .before .before .args .before .now) (c .before .before .before .before .before .before .before .before .before .before .before .before .before .before .before .before .before .before .before .before .before .pre .0) (c .before .before .before .before .before .before .before .before .before .before .before .before .before .before .before .before .before .before .before .before .before .args .p) (c .before .before .before .before .before .before .before .before .before .before .before .before .before .before .before .before .before .before .before .before .before .pre .1) (c .before .before .before .before .before .before .before .before .before .before .before .before .before .before .before .before .before .before .before .before .before .args .cells .now) (c .before .before .before .before .before .before .before .before .before .before .before .before .before .before .before .before .before .before .before .before .before .args .low .now) (c .before .before .before .before .before .before .before .before .before .before .before .before .before .before .before .before .before .before .before .before .before .pre .4) (c .before .before .before .before .before .before .before .before .before .before .before .before .before .before .before .before .width .result) (c .before .before .before .before .before .before .before .before .before .before .before .before .before .before .before .before .width .ensures) (c .before .before .before .before .before .before .before .before .before .before .before .before .settle-row .last .0) _ _ _ (c .before .before .before .before .before .before .before .before .before .before .before .before .settle-row .ensures) (c .before .before .before .before .ride-legs .ensures)
 
 pub visit-spec : {M : Type 1} → statement M
 visit-spec =
