@@ -1,21 +1,27 @@
 -- The chain of a place's legs: followed down while p is visited, and built up leg by leg.
-use Prim.Native.Nat.{ℕ, _+_, _-_, _≤_, _<_}
+use Prim.Native.Nat.{ℕ, zero, suc, _+_, _-_, _≤_, _<_}
 use native.Mathlib.Omega.{arith}
 use native.Mathlib.Decide.{ℕ-discrete, decLt}
 use mathlib.Core.Path.{_≡_, refl, sym, _∙_, ap, subst}
 use mathlib.Core.Logic.{_≢_}
 use mathlib.Core.List.{List}
-use lib.ListN.{length, getD, set}
+use lib.ListN.{length, getD, set, replicate}
 use lib.Seq.{getD-set-same, getD-set-other}
 use Rattle.plan.specs.Network.{Network}
+use Rattle.leg.specs.declared.Leg.{Leg}
+use Rattle.source.specs.Source.{fileOf}
 use Rattle.network.specs.declared.Size.{Size}
+use Rattle.network.specs.declared.NetworkFound.{NetworkFound}
+use Rattle.network.specs.Network.{edition1, leg, ofFile}
+use Rattle.network.specs.Answers.{legFound, networkFound}
+use Rattle.chart.specs.Chart.{Chart}
 use Rattle.rows.specs.Row.{at}
 use Rattle.table.specs.declared.Ask.{Ask}
 use Rattle.table.specs.Ask.{columns, query, netIn, planned}
 use Rattle.table.specs.Chains.{Next, Chained, Ready, Leaving}
 use Rattle.table.specs.Kept.{Visiting, Onward, Visited}
 use Rattle.table.proofs.Keeping.{visiting-next, visiting-done}
-use Rattle.table.proofs.InFile.{few-legs, few-places}
+use Rattle.table.proofs.InFile.{few-legs, few-places, leg-is, leg-sound}
 use Rattle.table.proofs.Legs.{onward-none, onward-more}
 
 -- how far a visit of p has come: the legs from l on are done
@@ -108,13 +114,39 @@ module _ (N : Network) (last before : List ℕ) (l from : ℕ) (c : Chained N l 
     befores = λ k h. before-now k h (ℕ-discrete k l);
   }
 
+zeros : (n i : ℕ) → at (replicate n 0) i ≡ 0
+zeros zero i = refl
+zeros (suc n) zero = refl
+zeros (suc n) (suc i) = zeros n i
+
 -- no leg yet
-pub chained-none : (N : Network) (last before : List ℕ) → ((p : ℕ) → at last p ≡ 0) → Chained N 0 last before
-chained-none N last before zeros = record {
+pub chained-none : (N : Network) (last before : List ℕ) → last ≡ replicate 64 0 → Chained N 0 last before
+chained-none N last before none = record {
   lasts = λ p h. record {
-    within = omega (arith, zeros p);
+    within = omega (arith, here p);
     all = λ k u e. absurd (omega arith);
-    leaves = λ k e. absurd (omega (arith, zeros p));
+    leaves = λ k e. absurd (omega (arith, here p));
   };
   befores = λ l h. absurd (omega arith);
 }
+  where
+    here : (p : ℕ) → at last p ≡ 0
+    here p = ap (λ (x : List ℕ). at x p) none ∙ zeros 64 p
+
+-- with the leg that the file has
+module _ (s : List ℕ) (size : Size) (sound : networkFound (ofFile s) ≡ NetworkFound.Sound size) (chart : List ℕ) (charted : Chart s chart) (l : ℕ) (known : l < size .legs)
+    (x : Leg) (decoded : x ≡ legFound (leg edition1 (size .places) (fileOf s) (getD chart l 0)) .leg) where
+  from-is : planned (netIn s) .source l ≡ x .from
+  from-is = ap (λ (y : Leg). y .from) (sym (leg-is s size sound chart charted l known x decoded))
+
+  from-known : x .from < netIn s .places
+  from-known = omega (arith, leg-sound s size sound chart charted l known .from-below, from-is)
+
+  pub from-few : x .from < 64
+  from-few = omega (arith, from-known, few-places s size sound .0, few-places s size sound .1)
+
+  pub chain-more : (last before : List ℕ) → length last ≡ 64 → length before ≡ 512 → Chained (planned (netIn s)) l last before
+      → Chained (planned (netIn s)) (l + 1) (set last (x .from) (l + 1)) (set before l (at last (x .from)))
+  chain-more last before size64 size512 c =
+      chained-more (planned (netIn s)) last before l (x .from) c from-is from-known (omega (arith, from-few))
+      (omega (arith, known, few-legs s size sound))

@@ -7,3 +7,4 @@ pub mod Legs
 pub mod Chaining
 pub mod Sweeps
 pub mod Visits
+pub mod Filling

@@ -4,7 +4,8 @@ use Prim.Native.Nat.{ℕ, _+_, _*_, _≤_, _<_}
 use mathlib.Core.Path.{_≡_}
 use mathlib.Core.Logic.{_⊎_, _≢_}
 use mathlib.Core.List.{List}
-use lib.ListN.{length}
+use lib.ListN.{length, set, replicate}
+use borrow.Rule.Slice.PartMut.{putMid}
 use Rattle.plan.specs.Network.{Network, Query}
 use Rattle.plan.specs.Plan.{Ride, total, Stands}
 use Rattle.plan.specs.Table.{noPlan, weight, width}
@@ -67,3 +68,8 @@ pub record NextNew (low : List ℕ) (places w next : ℕ) : Type 0 where
   pub within : next ≤ places
   pub none : places ≤ next → (p : ℕ) → p < places → w ≤ at low p
   pub new : next < places → at low next < w
+
+-- the table before the first visit: 0 in the start's row and `noPlan` elsewhere, and only the start has something to pass on
+pub record Outset (start w : ℕ) (cells cells′ low low′ : List ℕ) : Type 0 where
+  pub cells-are : cells′ ≡ putMid (start * w) w (replicate (length cells) noPlan) (replicate w 0)
+  pub low-is : low′ ≡ set (replicate (length low) w) start 0

@@ -10,10 +10,13 @@ ghost use Rattle.rows.specs.Row.{at};
 ghost use Rattle.table.specs.Ask.{Askable, columns, query, netIn, planned};
 ghost use Rattle.table.specs.Ride.{Banded, bandStart, Rode, RodeOut};
 ghost use Rattle.table.specs.Chains.{Chained, Leaving, Ready};
-ghost use Rattle.table.specs.Kept.{Kept, Never, Visiting, Onward, Visited, Clean, FirstNew, NextNew};
-ghost use Rattle.table.specs.Filled.{Filled};
+ghost use Rattle.table.specs.Kept.{Kept, Never, Visiting, Onward, Visited, Clean, FirstNew, NextNew, Outset};
+ghost use Rattle.table.specs.Filled.{Fillable, Filled};
 use leg::Leg;
 use network::Size;
+
+// What a cell holds where there is no plan.
+const NO_PLAN: u32 = 4294967295;
 
 // From where, and the first and last minute.
 pub struct Ask {
@@ -200,4 +203,65 @@ fn sweep(net: &[u8], size: Size, chart: &[u32; 512], last: &[usize; 64], before:
         visit(net, size, chart, last, before, ask, p, row, cells, low);
         p = next(low, p, places, w);
     }
+}
+
+// The legs of each place as a chain: `last` has the highest that leaves the place, `before` for each leg the next lower one; 0 is none, and
+// any other number is one more than the leg's.
+fn chain(net: &[u8], size: Size, chart: &[u32; 512], last: &mut [usize], before: &mut [usize])
+    requires { ⌜ (networkFound (ofFile (now net)) ≡ NetworkFound.Sound size) × Chart (now net) (now chart) × (now last ≡ replicate 64 0) × (length (now before) ≡ 512) ⌝ }
+    ensures { λ r. ⌜ Chained (planned (netIn (now (net .entry)))) (size .legs) (now (last .exit)) (now (before .exit)) ⌝ }
+{
+    let legs = size.legs;
+    let mut l = 0;
+    while l < legs {
+        let leg = chart::leg_at(net, size.places, chart[l]);
+        let from = leg.from as usize;
+        before[l] = last[from];
+        last[from] = l + 1;
+        l += 1;
+    }
+}
+
+// No place has anything new to pass on.
+fn quiet(low: &mut [usize], w: usize)
+    ensures { λ r. ⌜ now (low .exit) ≡ replicate (length (now (low .entry))) w ⌝ }
+{
+    let mut p = 0;
+    while p < low.len() {
+        low[p] = w;
+        p += 1;
+    }
+}
+
+// Before the first visit: who waits at the start has paid nothing, and no other cell has a plan yet.
+fn outset(start: usize, w: usize, cells: &mut [u32], low: &mut [usize])
+    requires { ⌜ (start * w + w ≤ length (now cells)) × (start < length (now low)) ⌝ }
+    ensures { λ r. ⌜ Outset start w (now (cells .entry)) (now (cells .exit)) (now (low .entry)) (now (low .exit)) ⌝ }
+{
+    let begin = start * w;
+    let end = begin + w;
+    rows::blank(cells, NO_PLAN);
+    rows::blank(&mut cells[begin..end], 0);
+    quiet(low, w);
+    low[start] = 0;
+}
+
+// The minute table of a sound network file: 64 × cost + legs for each place and minute of the window.
+pub fn fill(net: &[u8], size: Size, start: u32, earliest: u32, latest: u32, cells: &mut [u32])
+    requires { ⌜ Fillable (now net) size start earliest latest (now cells) ⌝ }
+    ensures { λ r. ⌜ Filled (now (net .entry)) start earliest latest (now (cells .entry)) (now (cells .exit)) ⌝ }
+{
+    let ask = Ask {
+        start,
+        earliest,
+        latest,
+    };
+    let chart = chart::chart(net, size);
+    let mut last = [0usize; 64];
+    let mut before = [0usize; 512];
+    let mut low = [0usize; 64];
+    let mut row = [0u32; 2880];
+    chain(net, size, &chart, &mut last, &mut before);
+    outset(start as usize, width(ask), cells, &mut low);
+    sweep(net, size, &chart, &last, &before, ask, &mut row, cells, &mut low);
 }
