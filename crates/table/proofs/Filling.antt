@@ -3,13 +3,15 @@ use Prim.Native.Nat.{ℕ, _+_, _*_, _-_, _≤_, _<_}
 use native.Mathlib.Omega.{arith}
 use mathlib.Core.Path.{_≡_, refl, sym, _∙_, ap, subst}
 use mathlib.Core.List.{List}
-use lib.ListN.{length, set, replicate}
+use lib.ListN.{length, set, take, drop, replicate, length-set, length-replicate}
+use borrow.Rule.Slice.PartMut.{putMid}
 use Rattle.plan.specs.Network as Plan
-use Rattle.plan.specs.Table.{MinuteTable, cellAt}
+use Rattle.plan.specs.Table.{noPlan, MinuteTable, cellAt}
 use Rattle.network.specs.declared.Size.{Size}
 use Rattle.network.specs.Reading.{found}
 use Rattle.network.specs.Network.{Network, ofFile}
 use Rattle.rows.specs.Row.{at}
+use Rattle.rows.proofs.Wholes.{row-length}
 use Rattle.table.specs.declared.Ask.{Ask}
 use Rattle.table.specs.Ask.{Askable, columns, query, queryTo, netIn, planned}
 use Rattle.table.specs.Kept.{Kept, Never, Clean, Outset}
@@ -65,3 +67,18 @@ module _ (s : List ℕ) (size : Size) (start earliest latest : ℕ) (cells : Lis
         (any-end (planned (netIn s)) (query this) start end (cellAt (query this) cells′)
         (clean-table (planned (netIn s)) (query this) plan-asked cells′ low (c .kept) (c .clean)));
   }
+
+-- ---- the outset, as the code makes it
+
+pub outset-cells : (cells blanked zeros : List ℕ) (start w k : ℕ) → k ≡ w → start * w + w ≤ length cells → blanked ≡ replicate (length cells) noPlan
+    → zeros ≡ replicate (length (take k (drop (start * w) blanked))) 0
+    → putMid (start * w) k blanked zeros ≡ putMid (start * w) w (replicate (length cells) noPlan) (replicate w 0)
+outset-cells cells blanked zeros start w k size fits b z =
+    let long : length blanked ≡ length cells = ap length b ∙ length-replicate {A = ℕ} (length cells) noPlan in
+    let part : length (take k (drop (start * w) blanked)) ≡ w = rw size (row-length blanked w start (omega arith)) in
+    let zero-row : zeros ≡ replicate w 0 = z ∙ ap (λ (n : ℕ). replicate n 0) part in
+    rw (size, zero-row) (ap (λ (xs : List ℕ). putMid (start * w) w xs (replicate w 0)) b)
+
+pub outset-long : (start w : ℕ) (cells cells′ low low′ : List ℕ) → Outset start w cells cells′ low low′ → length low ≡ 64 → length low′ ≡ 64
+outset-long start w cells cells′ low low′ o long =
+    ap length (o .low-is) ∙ length-set (replicate (length low) w) start 0 ∙ length-replicate {A = ℕ} (length low) w ∙ long
