@@ -1,9 +1,8 @@
 -- The chain of a place's legs: followed down while p is visited, and built up leg by leg.
 use Prim.Native.Nat.{ℕ, zero, suc, _+_, _-_, _≤_, _<_}
 use native.Mathlib.Omega.{arith}
-use native.Mathlib.Decide.{ℕ-discrete, decLt}
-use mathlib.Core.Path.{_≡_, refl, sym, _∙_, ap, subst}
-use mathlib.Core.Logic.{_≢_}
+use native.Mathlib.Decide.{ℕ-discrete}
+use mathlib.Core.Path.{_≡_, refl, sym, _∙_, ap}
 use mathlib.Core.List.{List}
 use lib.ListN.{length, getD, set, replicate}
 use lib.Seq.{getD-set-same, getD-set-other}
@@ -53,9 +52,10 @@ module _ (s : List ℕ) (size : Size) (ask : Ask) (chart last before : List ℕ)
 
     pub riding-now : columns ask ≤ length row
         → Leaving s size ask chart row p (l - 1) × Visiting (planned (netIn s)) (query ask) cells′ low′ row p from (l - 1 + 1)
-    riding-now room =
-        (record { sound = g .sound; asked = g .asked; charted = g .charted; known = omega (arith, r .within); leaves = this-leaves; room = room },
-        rw this-one (r .visiting))
+    riding-now room = (
+      record { sound = g .sound; asked = g .asked; charted = g .charted; known = omega (arith, r .within); leaves = this-leaves; room = room },
+      rw this-one (r .visiting),
+    )
 
     next-leg : Next (planned (netIn s)) p (l - 1) (at before (l - 1))
     next-leg = rw this-leaves at (g .chained .befores (l - 1) (omega (arith, r .within)))

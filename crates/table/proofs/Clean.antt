@@ -2,19 +2,19 @@
 use Prim.Native.Nat.{ℕ, zero, suc, _+_, _*_, _-_, _≤_, _<_}
 use native.Mathlib.Omega.{arith}
 use native.Mathlib.Decide.{ℕ-discrete}
-use mathlib.Core.Path.{_≡_, refl, sym, _∙_, ap, subst}
-use mathlib.Core.Logic.{_≢_, _⊎_, inl, inr}
+use mathlib.Core.Path.{_≡_, sym, _∙_, ap}
+use mathlib.Core.Logic.{_≢_, inl, inr}
 use mathlib.Core.List.{List, [], _∷_}
 use lib.ListN.{length, set, replicate, length-replicate, getD-replicate, length-set}
 use lib.Seq.{getD-set-same, getD-set-other}
 use borrow.Rule.Slice.PartMut.{putMid}
-use Rattle.plan.specs.Network.{Minute, Network, InRange, Query, Askable, Within, Leaves}
-use Rattle.plan.specs.Plan.{Ride, place, cost, Follows, Runs, Stands}
-use Rattle.plan.specs.Table.{noPlan, weight, Cheapest, Cell, width, cellAt, MinuteTable}
+use Rattle.plan.specs.Network.{Minute, Network, InRange, Query, Askable}
+use Rattle.plan.specs.Plan.{Ride, place, Runs, Stands}
+use Rattle.plan.specs.Table.{noPlan, weight, Cell, width, cellAt, MinuteTable}
 use Rattle.plan.proofs.Cells.{Attained, attained-start}
 use Rattle.plan.proofs.Exact.{ObeysCells, AttainedCells, exact}
 use Rattle.rows.specs.Row.{at}
-use Rattle.rows.specs.Whole.{cell, rowOf}
+use Rattle.rows.specs.Whole.{cell}
 use Rattle.rows.proofs.Wholes.{row-at, whole-length, whole-row, whole-only}
 use Rattle.table.specs.Kept.{Reached, Kept, Never}
 use Rattle.table.proofs.Keeping.{row-fits}

@@ -1,19 +1,18 @@
 -- The table, filled.
-use Prim.Native.Nat.{ℕ, _+_, _*_, _-_, _≤_, _<_}
+use Prim.Native.Nat.{ℕ, _+_, _*_, _≤_, _<_}
 use native.Mathlib.Omega.{arith}
-use mathlib.Core.Path.{_≡_, refl, sym, _∙_, ap, subst}
+use mathlib.Core.Path.{_≡_, _∙_, ap, subst}
 use mathlib.Core.List.{List}
-use lib.ListN.{length, set, take, drop, replicate, length-set, length-replicate}
+use lib.ListN.{length, take, drop, replicate, length-set, length-replicate}
 use borrow.Rule.Slice.PartMut.{putMid}
 use Rattle.plan.specs.Network as Plan
 use Rattle.plan.specs.Table.{noPlan, MinuteTable, cellAt}
 use Rattle.network.specs.declared.Size.{Size}
-use Rattle.network.specs.Reading.{found}
-use Rattle.network.specs.Network.{Network, ofFile}
+use Rattle.network.specs.Network.{Network}
 use Rattle.rows.specs.Row.{at}
 use Rattle.rows.proofs.Wholes.{row-length}
 use Rattle.table.specs.declared.Ask.{Ask}
-use Rattle.table.specs.Ask.{Askable, columns, query, queryTo, netIn, planned}
+use Rattle.table.specs.Ask.{Askable, columns, query, netIn, planned}
 use Rattle.table.specs.Kept.{Kept, Never, Clean, Outset}
 use Rattle.table.specs.Filled.{asked, Fillable, Filled}
 use Rattle.table.proofs.Keeping.{row-fits}

@@ -1,5 +1,5 @@
 -- The network that a sound file stands for, as the plans see it.
-use Prim.Native.Nat.{ℕ, zero, suc, _+_, _≤_, _<_}
+use Prim.Native.Nat.{ℕ, zero, suc, _≤_, _<_}
 use native.Mathlib.Omega.{arith}
 use native.Mathlib.Decide.{decLe}
 use native.Mathlib.Numerals.{add-one}
@@ -21,7 +21,7 @@ use Rattle.network.specs.Network.{Network, edition1, leg, ofFile}
 use Rattle.network.specs.Answers.{sizeOf, networkFound, legFound}
 use Rattle.network.proofs.Sound.{SoundLeg, SoundNetwork}
 use Rattle.network.proofs.Files.{sound-file}
-use Rattle.chart.specs.Chart.{Chart, Charted}
+use Rattle.chart.specs.Chart.{Chart}
 use Rattle.chart.proofs.Charting.{charted-leg}
 use Rattle.table.specs.Ask.{netOf, netIn, planned}
 use Rattle.table.specs.Ride.{Banded}

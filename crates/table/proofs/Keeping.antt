@@ -1,22 +1,19 @@
 -- What the sweep keeps: from one visit to the next, and from one leg of a visit to the next.
-use Prim.Native.Nat.{ℕ, zero, suc, _+_, _*_, _-_, _≤_, _<_, min}
+use Prim.Native.Nat.{ℕ, _+_, _*_, _≤_, _<_}
 use native.Mathlib.Omega.{arith}
-use native.Mathlib.Decide.{ℕ-discrete, decLt, decLe}
-use mathlib.Core.Path.{_≡_, refl, sym, _∙_, ap, subst}
-use mathlib.Core.Logic.{_≢_, _⊎_, inl, inr}
+use native.Mathlib.Decide.{ℕ-discrete, decLt}
+use mathlib.Core.Path.{_≡_, refl, sym, _∙_, subst}
+use mathlib.Core.Logic.{_≢_}
 use mathlib.Core.List.{List}
 use lib.Dec.{T}
-use lib.ListN.{length, getD, set, length-set}
+use lib.ListN.{length, set, length-set}
 use lib.Seq.{getD-set-same, getD-set-other}
-use Rattle.leg.specs.declared.Leg.{Leg}
-use Rattle.leg.specs.Toll.{tollAt}
 use Rattle.plan.specs.Network.{Network, InRange, Query}
 use Rattle.plan.specs.Table.{noPlan, weight, width}
 use Rattle.plan.proofs.Cells.{Attained, attained-wait, attained-ride}
-use Rattle.rows.specs.Row.{at, Settle}
-use Rattle.rows.specs.Whole.{cell, rowOf, sum, SettleRow}
+use Rattle.rows.specs.Row.{at}
+use Rattle.rows.specs.Whole.{cell, rowOf, SettleRow}
 use Rattle.rows.proofs.Wholes.{row-at, rows-apart}
-use Rattle.table.specs.Ride.{adds, Arrives, Rode}
 use Rattle.table.specs.Chains.{Next}
 use Rattle.table.specs.Kept.{Reached, Kept, Never, Below, Visiting}
 

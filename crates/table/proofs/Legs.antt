@@ -1,14 +1,13 @@
 -- A leg of the file, decoded and ridden: what the visit keeps.
-use Prim.Native.Nat.{ℕ, _+_, _*_, _-_, _≤_, _<_, min}
+use Prim.Native.Nat.{ℕ, _+_, _*_, _≤_, _<_, min}
 use native.Mathlib.Omega.{arith}
 use native.Mathlib.Decide.{decLt}
-use mathlib.Core.Path.{_≡_, refl, sym, _∙_, ap, subst}
-use mathlib.Core.Logic.{_≢_, _⊎_, inl, inr}
+use mathlib.Core.Path.{_≡_, refl, _∙_}
+use mathlib.Core.Logic.{_⊎_, inl, inr}
 use mathlib.Core.List.{List}
 use lib.ListN.{length, getD, set, length-set}
 use lib.Seq.{set-getD}
 use Rattle.leg.specs.declared.Leg.{Leg}
-use Rattle.plan.specs.Network.{InRange}
 use Rattle.plan.specs.Legs.{noLeg}
 use Rattle.source.specs.Source.{fileOf}
 use Rattle.network.specs.declared.Size.{Size}
@@ -18,12 +17,12 @@ use Rattle.network.proofs.Sound.{SoundLeg}
 use Rattle.rows.specs.Row.{at}
 use Rattle.rows.specs.Whole.{sum}
 use Rattle.table.specs.declared.Ask.{Ask}
-use Rattle.table.specs.Ask.{Askable, columns, query, netIn, planned}
+use Rattle.table.specs.Ask.{columns, query, netIn, planned}
 use Rattle.table.specs.Ride.{Banded, Rode, RodeOut}
 use Rattle.table.specs.Chains.{Leaving}
-use Rattle.table.specs.Kept.{Kept, Visiting, Onward}
+use Rattle.table.specs.Kept.{Visiting, Onward}
 use Rattle.table.proofs.Keeping.{row-fits}
-use Rattle.table.proofs.Riding.{LegOf, visiting-rode}
+use Rattle.table.proofs.Riding.{visiting-rode}
 use Rattle.table.proofs.InFile.{in-file, ranges-kept, banded, leg-known, leg-is, leg-sound, leg-of}
 
 pub onward-none : (cells low : List ℕ) → Onward cells cells low low
@@ -52,12 +51,13 @@ module _ (s : List ℕ) (size : Size) (ask : Ask) (chart row cells low : List �
 
   pub leg-room : (x .to * w + w ≤ length cells) × (w ≤ length row) × (ask .earliest + w ≤ 2880) × Banded x × (x .to < length low)
   leg-room =
-      rw wide
-      (row-fits (netIn s .places) (columns ask) (x .to) (length cells) (this-sound .to-below) (v .kept .long),
-      g .room,
-      omega (arith, g .asked .window, g .asked .clock),
-      banded (netIn s .places) x this-sound,
-      omega (arith, this-sound .to-below, v .kept .places))
+      rw wide (
+        row-fits (netIn s .places) (columns ask) (x .to) (length cells) (this-sound .to-below) (v .kept .long),
+        g .room,
+        omega (arith, g .asked .window, g .asked .clock),
+        banded (netIn s .places) x this-sound,
+        omega (arith, this-sound .to-below, v .kept .places),
+      )
 
   onward : (cells′ : List ℕ) (first : ℕ) → Rode x (ask .earliest) (columns ask) from cells cells′ row first 0 2880
       → Dec (first < columns ask) → (set low (x .to) (min (at low (x .to)) first) ≡ low) ⊎ (sum cells′ < sum cells)
@@ -70,12 +70,13 @@ module _ (s : List ℕ) (size : Size) (ask : Ask) (chart row cells low : List �
       → Visiting (planned (netIn s)) (query ask) cells′ low′ row p from l × Onward cells cells′ low low′
   leg-done cells′ low′ o =
       let r : Rode x (ask .earliest) (columns ask) from cells cells′ row (o .first) 0 2880 = rw wide at (o .rode) in
-      rw (o .noted)
-      (visiting-rode (planned (netIn s)) (query ask) (ranges-kept (netIn s) (in-file s size (g .sound) .sound)) cells cells′ low row p from l (o .first) x v
-      (leg-known s size (g .sound) chart (g .charted) l (g .known)) (g .leaves) (leg-of s size (g .sound) chart (g .charted) l (g .known) x this-leg)
-      (omega (arith, g .asked .window, g .asked .clock)) r,
-      record {
-        long = length-set low (x .to) (min (at low (x .to)) (o .first));
-        falls = r .falls;
-        noted = onward cells′ (o .first) r (decLt (o .first) (columns ask));
-      })
+      rw (o .noted) (
+        visiting-rode (planned (netIn s)) (query ask) (ranges-kept (netIn s) (in-file s size (g .sound) .sound)) cells cells′ low row p from l (o .first) x v
+            (leg-known s size (g .sound) chart (g .charted) l (g .known)) (g .leaves) (leg-of s size (g .sound) chart (g .charted) l (g .known) x this-leg)
+            (omega (arith, g .asked .window, g .asked .clock)) r,
+        record {
+          long = length-set low (x .to) (min (at low (x .to)) (o .first));
+          falls = r .falls;
+          noted = onward cells′ (o .first) r (decLt (o .first) (columns ask));
+        },
+      )

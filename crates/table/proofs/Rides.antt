@@ -1,9 +1,9 @@
 -- Rides along a leg, band by band.
 use Prim.Native.Nat.{ℕ, zero, suc, _+_, _*_, _-_, _≤_, _<_, min, max}
 use native.Mathlib.Omega.{arith}
-use native.Mathlib.Decide.{ℕ-discrete, decLt}
-use mathlib.Core.Path.{_≡_, refl, sym, _∙_, ap, subst}
-use mathlib.Core.Logic.{_≢_, _⊎_, inl, inr}
+use native.Mathlib.Decide.{decLt}
+use mathlib.Core.Path.{_≡_, refl, sym, _∙_}
+use mathlib.Core.Logic.{_⊎_, inl, inr}
 use mathlib.Core.List.{List}
 use borrow.Author.Tests.{lt-ltb, le-ltb}
 use lib.ListN.{length, getD}
@@ -12,7 +12,7 @@ use Rattle.leg.specs.Ranges.{noBand}
 use Rattle.leg.specs.Toll.{tollAt, tollOfFirst, either}
 use Rattle.leg.proofs.Laws.{toll-begun, toll-later}
 use Rattle.rows.specs.Row.{at}
-use Rattle.rows.specs.Whole.{cell, rowOf, sum, Only, LowerRow}
+use Rattle.rows.specs.Whole.{cell, rowOf, sum, LowerRow}
 use Rattle.rows.proofs.Wholes.{row-at}
 use Rattle.table.specs.Ride.{Banded, bandStart, adds, Arrives, Rode}
 
@@ -95,7 +95,7 @@ module _ (leg : Leg) (earliest w from : ℕ) (row : List ℕ) where
 
     arrive : (j : ℕ) → j < w → Dec (j < max from (lo - earliest) + leg .time .0) → Dec (j < min (hi - earliest) (w - leg .time .0) + leg .time .0)
         → (cell new w (leg .to) j ≡ cell old w (leg .to) j)
-          ⊎ Arrives leg earliest from row j (cell new w (leg .to) j) (cell old w (leg .to) j)
+        ⊎ Arrives leg earliest from row j (cell new w (leg .to) j) (cell old w (leg .to) j)
     arrive j h (yes a) u = inl (sym (new-at j h) ∙ l .lower .before j a ∙ old-at j h)
     arrive j h (no a) (no u) = inl (sym (new-at j h) ∙ l .lower .after j (omega arith) ∙ old-at j h)
     arrive j h (no a) (yes u) =
@@ -107,14 +107,14 @@ module _ (leg : Leg) (earliest w from : ℕ) (row : List ℕ) where
         either-way : (i : ℕ) → i + leg .time .0 ≡ j → cell new w (leg .to) j ≡ min (cell old w (leg .to) j) (at row i + adds leg earliest i)
             → Dec (at row i + adds leg earliest i < cell old w (leg .to) j)
             → (cell new w (leg .to) j ≡ cell old w (leg .to) j)
-              ⊎ Arrives leg earliest from row j (cell new w (leg .to) j) (cell old w (leg .to) j)
+            ⊎ Arrives leg earliest from row j (cell new w (leg .to) j) (cell old w (leg .to) j)
         either-way i is r (yes lt) =
             inr (record { column = i; since = omega arith; here = is; gives = omega (arith, r); lower = omega (arith, r) })
         either-way i is r (no ge) = inl (omega (arith, r))
 
     arrives : (j : ℕ) → j < w
         → (cell new w (leg .to) j ≡ cell old w (leg .to) j)
-          ⊎ Arrives leg earliest from row j (cell new w (leg .to) j) (cell old w (leg .to) j)
+        ⊎ Arrives leg earliest from row j (cell new w (leg .to) j) (cell old w (leg .to) j)
     arrives j h = arrive j h (decLt j _) (decLt j _)
 
     pub rode-lowered : Rode leg earliest w from old new row first lo hi
@@ -130,7 +130,7 @@ module _ (leg : Leg) (earliest w from : ℕ) (row : List ℕ) where
     }
       where
         falls : (j : ℕ) → (cell new w (leg .to) j ≡ cell old w (leg .to) j)
-              ⊎ Arrives leg earliest from row j (cell new w (leg .to) j) (cell old w (leg .to) j)
+            ⊎ Arrives leg earliest from row j (cell new w (leg .to) j) (cell old w (leg .to) j)
             → cell new w (leg .to) j ≤ cell old w (leg .to) j
         falls j (inl e) = omega (arith, e)
         falls j (inr a) = omega (arith, a .lower)

@@ -1,21 +1,21 @@
 -- One leg of a visit is done: what the sweep keeps over its rides.
-use Prim.Native.Nat.{ℕ, _+_, _*_, _-_, _≤_, _<_, min}
+use Prim.Native.Nat.{ℕ, _+_, _≤_, _<_, min}
 use native.Mathlib.Omega.{arith}
 use native.Mathlib.Decide.{ℕ-discrete, decLe}
-use mathlib.Core.Path.{_≡_, refl, sym, _∙_, ap, subst}
+use mathlib.Core.Path.{_≡_, sym, _∙_, ap, subst}
 use mathlib.Core.Logic.{_≢_, _⊎_, inl, inr}
 use mathlib.Core.List.{List}
 use lib.Dec.{T}
-use lib.ListN.{length, set, length-set}
+use lib.ListN.{set, length-set}
 use lib.Seq.{getD-set-same, getD-set-other}
 use Rattle.leg.specs.declared.Leg.{Leg}
 use Rattle.leg.specs.Toll.{tollAt}
 use Rattle.plan.specs.Network.{Network, InRange, Query}
 use Rattle.plan.specs.Table.{noPlan, weight, width}
 use Rattle.rows.specs.Row.{at}
-use Rattle.rows.specs.Whole.{cell, sum}
-use Rattle.table.specs.Ride.{adds, Arrives, Rode}
-use Rattle.table.specs.Kept.{Reached, Kept, Below, Visiting}
+use Rattle.rows.specs.Whole.{cell}
+use Rattle.table.specs.Ride.{Arrives, Rode}
+use Rattle.table.specs.Kept.{Reached, Below, Visiting}
 use Rattle.table.proofs.Keeping.{reached-ride}
 
 -- the leg is leg l of the network
@@ -62,7 +62,7 @@ module _ (N : Network) (q : Query) (ranges : InRange N) (old new low row : List 
   ridden-reached o j known-o h (yes e) open-cell = rw e (by (r .ridden j h))
     where
       by : (cell new (width q) (leg .to) j ≡ cell old (width q) (leg .to) j)
-            ⊎ Arrives leg (q .earliest) x row j (cell new (width q) (leg .to) j) (cell old (width q) (leg .to) j)
+          ⊎ Arrives leg (q .earliest) x row j (cell new (width q) (leg .to) j) (cell old (width q) (leg .to) j)
           → Reached N q (leg .to) j (cell new (width q) (leg .to) j)
       by (inl same) = rw same (v .kept .reached (leg .to) j to-known h (λ none. open-cell (rw e (same ∙ none))))
       by (inr a) =
@@ -74,7 +74,7 @@ module _ (N : Network) (q : Query) (ranges : InRange N) (old new low row : List 
           let rode = reached-ride N q l i (at row i) known (is .goes (q .earliest + i)) from-source in
           let arrived : i + N .time l ≡ j = ap (λ (t : ℕ). i + t) (is .time) ∙ a .here in
           let value : at row i + weight N l (q .earliest + i) ≡ cell new (width q) (leg .to) j =
-              omega (arith, a .gives, is .toll (q .earliest + i)) in
+          omega (arith, a .gives, is .toll (q .earliest + i)) in
           subst (λ (c : ℕ). Reached N q (leg .to) j c) value
           (subst (λ (m : ℕ). Reached N q (leg .to) m (at row i + weight N l (q .earliest + i))) arrived
           (subst (λ (o : ℕ). Reached N q o (i + N .time l) (at row i + weight N l (q .earliest + i))) (is .target) rode))
@@ -105,11 +105,11 @@ module _ (N : Network) (q : Query) (ranges : InRange N) (old new low row : List 
           let target-is : N .target k ≡ leg .to = ap (N .target) e ∙ is .target in
           let toll-is : N .toll k (q .earliest + j) ≡ tollAt leg (q .earliest + j) = ap (λ (n : ℕ). N .toll n (q .earliest + j)) e ∙ is .toll (q .earliest + j) in
           let row-is : at row j ≡ cell old (width q) p j =
-              v .current j late (omega (arith, low-falls p (ℕ-discrete p (leg .to)), rw from-p at h)) in
+          v .current j late (omega (arith, low-falls p (ℕ-discrete p (leg .to)), rw from-p at h)) in
           let same-p : cell new (width q) (N .source k) j ≡ cell old (width q) p j = same ∙ ap (λ (o : ℕ). cell old (width q) o j) from-p in
           let rule = r .obeys j late (omega arith) (omega arith) (omega (arith, there, time-is)) in
           let goal : cell new (width q) (leg .to) (j + leg .time .0) ≤ cell new (width q) (N .source k) j + weight N k (q .earliest + j) =
-              omega (arith, rule, same-p, row-is, toll-is) in
+          omega (arith, rule, same-p, row-is, toll-is) in
           rw (target-is, time-is) goal
 
       by : Dec (k ≡ l) → Dec (x ≤ j)

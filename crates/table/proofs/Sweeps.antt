@@ -2,13 +2,13 @@
 use Prim.Native.Nat.{ℕ, zero, suc, _+_, _*_, _-_, _≤_, _<_}
 use native.Mathlib.Omega.{arith}
 use native.Mathlib.Decide.{ℕ-discrete}
-use mathlib.Core.Path.{_≡_, refl, sym, _∙_, ap}
+use mathlib.Core.Path.{_≡_, ap}
 use mathlib.Core.Logic.{_⊎_, inl, inr}
 use mathlib.Core.List.{List, [], _∷_}
 use lib.ListN.{length, set, length-set}
 use Rattle.rows.specs.Row.{at}
 use Rattle.rows.specs.Whole.{sum}
-use Rattle.table.specs.Kept.{Onward, FirstNew, NextNew}
+use Rattle.table.specs.Kept.{Onward}
 
 pub new-more : (low : List ℕ) (from p w : ℕ) → ((o : ℕ) → from ≤ o → o < p → w ≤ at low o) → w ≤ at low p → (o : ℕ) → from ≤ o → o < p + 1 → w ≤ at low o
 new-more low from p w h here o f u = by (ℕ-discrete o p)

@@ -1,7 +1,7 @@
 -- A visit as a whole, and the visits of a sweep.
-use Prim.Native.Nat.{ℕ, _+_, _*_, _-_, _≤_, _<_}
+use Prim.Native.Nat.{ℕ, _+_, _*_, _≤_, _<_}
 use native.Mathlib.Omega.{arith}
-use mathlib.Core.Path.{_≡_, refl, sym, _∙_, ap, subst}
+use mathlib.Core.Path.{_≡_, refl, ap}
 use native.Mathlib.Decide.{decLt}
 use mathlib.Core.Logic.{_⊎_, inl, inr}
 use mathlib.Core.List.{List}
@@ -12,7 +12,7 @@ use Rattle.rows.specs.Whole.{sum, SettleRow}
 use Rattle.table.specs.declared.Ask.{Ask}
 use Rattle.table.specs.Ask.{columns, query, netIn, planned}
 use Rattle.table.specs.Chains.{Ready}
-use Rattle.table.specs.Kept.{Kept, Never, Visiting, Onward, Visited, Clean, FirstNew, NextNew}
+use Rattle.table.specs.Kept.{Kept, Never, Visiting, Visited, Clean, FirstNew, NextNew}
 use Rattle.table.proofs.Keeping.{row-fits, visiting-begins}
 use Rattle.table.proofs.InFile.{in-file, ranges-kept, few-places}
 use Rattle.table.proofs.Sweeps.{left, falls}

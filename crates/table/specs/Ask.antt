@@ -1,6 +1,5 @@
 -- What is asked of the table, and of which network.
 use Prim.Native.Nat.{ℕ, _-_, _+_, _≤_, _<_}
-use mathlib.Core.Path.{_≡_}
 use mathlib.Core.List.{List, []}
 use Rattle.plan.specs.Network as Plan
 use Rattle.plan.specs.Legs.{networkOf}

@@ -1,7 +1,6 @@
 -- Rides along one leg: what they do to the row of the place that it goes to.
 use Prim.Native.Nat.{ℕ, _+_, _*_, _≤_, _<_, min}
 use mathlib.Core.Path.{_≡_}
-use mathlib.Core.Bool.{Bool, true, false}
 use mathlib.Core.Logic.{_⊎_}
 use mathlib.Core.List.{List}
 use lib.Dec.{ltb}
@@ -43,7 +42,7 @@ pub record Rode (leg : Leg) (earliest w from : ℕ) (old new row : List ℕ) (fi
   pub below : (j : ℕ) → j < w → cell new w (leg .to) j ≤ cell old w (leg .to) j
   pub ridden : (j : ℕ) → j < w
       → (cell new w (leg .to) j ≡ cell old w (leg .to) j)
-        ⊎ Arrives leg earliest from row j (cell new w (leg .to) j) (cell old w (leg .to) j)
+      ⊎ Arrives leg earliest from row j (cell new w (leg .to) j) (cell old w (leg .to) j)
   pub obeys : (i : ℕ) → from ≤ i → lo ≤ earliest + i → earliest + i < hi → i + leg .time .0 < w
       → cell new w (leg .to) (i + leg .time .0) ≤ at row i + adds leg earliest i
   pub falls : sum new ≤ sum old

@@ -34,32 +34,20 @@ fn wide(x: u32) -> u64
 fn lesser(a: usize, b: usize) -> usize
     ensures { λ r. ⌜ r ≡ min a b ⌝ }
 {
-    if a < b {
-        a
-    } else {
-        b
-    }
+    if a < b { a } else { b }
 }
 
 fn greater(a: usize, b: usize) -> usize
     ensures { λ r. ⌜ r ≡ max a b ⌝ }
 {
-    if a < b {
-        b
-    } else {
-        a
-    }
+    if a < b { b } else { a }
 }
 
 // a - b, and 0 where b is the greater.
 fn less(a: usize, b: usize) -> usize
     ensures { λ r. ⌜ r ≡ a - b ⌝ }
 {
-    if b < a {
-        a - b
-    } else {
-        0
-    }
+    if b < a { a - b } else { 0 }
 }
 
 // The minute at which band k starts; past the last band, the end of the clock.
@@ -78,7 +66,15 @@ fn band_start(leg: Leg, k: usize) -> usize
 }
 
 // Rides in band k, from the columns not before `from`: the first column of the target's row that changed, or w.
-fn ride_band(leg: Leg, k: usize, earliest: u32, w: usize, row: &[u32], from: usize, cells: &mut [u32]) -> usize
+fn ride_band(
+    leg: Leg,
+    k: usize,
+    earliest: u32,
+    w: usize,
+    row: &[u32],
+    from: usize,
+    cells: &mut [u32],
+) -> usize
     requires { ⌜ (k < leg .count) × (leg .to * w + w ≤ length (now cells)) × (w ≤ length (now row)) × (earliest + w ≤ 2880) × Banded leg ⌝ }
     ensures { λ r. ⌜ Rode leg earliest w from (now (cells .entry)) (now (cells .exit)) (now (row .entry)) r (bandStart leg k) (bandStart leg (k + 1)) ⌝ }
 {
@@ -86,11 +82,23 @@ fn ride_band(leg: Leg, k: usize, earliest: u32, w: usize, row: &[u32], from: usi
     let band = bands[k];
     let time = leg.time.0 as usize;
     let begin = greater(from, less(band_start(leg, k), earliest as usize));
-    let until = lesser(less(band_start(leg, k + 1), earliest as usize), less(w, time));
+    let until = lesser(
+        less(band_start(leg, k + 1), earliest as usize),
+        less(w, time),
+    );
     if until <= begin {
         return w;
     }
-    rows::lower_row(cells, w, leg.to as usize, row, begin, until, time, 64 * wide(band.toll.0) + 1)
+    rows::lower_row(
+        cells,
+        w,
+        leg.to as usize,
+        row,
+        begin,
+        until,
+        time,
+        64 * wide(band.toll.0) + 1,
+    )
 }
 
 // Rides along a leg from the columns not before `from`, band by band: the first column of its target's row that changed, or w.
@@ -109,7 +117,15 @@ fn ride(leg: Leg, earliest: u32, w: usize, row: &[u32], from: usize, cells: &mut
 }
 
 // Rides along a leg, and its target notes the first column that changed.
-fn ride_out(leg: Leg, earliest: u32, w: usize, row: &[u32], from: usize, cells: &mut [u32], low: &mut [usize])
+fn ride_out(
+    leg: Leg,
+    earliest: u32,
+    w: usize,
+    row: &[u32],
+    from: usize,
+    cells: &mut [u32],
+    low: &mut [usize],
+)
     requires { ⌜ (leg .to * w + w ≤ length (now cells)) × (w ≤ length (now row)) × (earliest + w ≤ 2880) × Banded leg × (leg .to < length (now low)) ⌝ }
     ensures { λ r. ⌜ RodeOut leg earliest w from (now (cells .entry)) (now (cells .exit)) (now (row .entry)) (now (low .entry)) (now (low .exit)) ⌝ }
 {
@@ -127,7 +143,18 @@ fn width(ask: Ask) -> usize
 }
 
 // Rides along leg l, which leaves p, from p's settled row.
-fn ride_leg(net: &[u8], size: Size, chart: &[u32; 512], ask: Ask, p: usize, l: usize, row: &[u32], from: usize, cells: &mut [u32], low: &mut [usize])
+fn ride_leg(
+    net: &[u8],
+    size: Size,
+    chart: &[u32; 512],
+    ask: Ask,
+    p: usize,
+    l: usize,
+    row: &[u32],
+    from: usize,
+    cells: &mut [u32],
+    low: &mut [usize],
+)
     requires { ⌜ Leaving (now net) size ask (now chart) (now row) p l × Visiting (planned (netIn (now net))) (query ask) (now cells) (now low) (now row) p from (l + 1) ⌝ }
     ensures { λ r. ⌜ Visiting (planned (netIn (now (net .entry)))) (query ask) (now (cells .exit)) (now (low .exit)) (now (row .entry)) p from l × Onward (now (cells .entry)) (now (cells .exit)) (now (low .entry)) (now (low .exit)) ⌝ }
 {
@@ -137,7 +164,19 @@ fn ride_leg(net: &[u8], size: Size, chart: &[u32; 512], ask: Ask, p: usize, l: u
 }
 
 // Rides along all legs that leave p, from its settled row; the leg of the highest number comes first.
-fn ride_legs(net: &[u8], size: Size, chart: &[u32; 512], last: &[usize; 64], before: &[usize; 512], ask: Ask, p: usize, row: &[u32], from: usize, cells: &mut [u32], low: &mut [usize])
+fn ride_legs(
+    net: &[u8],
+    size: Size,
+    chart: &[u32; 512],
+    last: &[usize; 64],
+    before: &[usize; 512],
+    ask: Ask,
+    p: usize,
+    row: &[u32],
+    from: usize,
+    cells: &mut [u32],
+    low: &mut [usize],
+)
     requires { ⌜ Ready (now net) size ask (now chart) (now last) (now before) × (p < size .places) × (columns ask ≤ length (now row)) × Visiting (planned (netIn (now net))) (query ask) (now cells) (now low) (now row) p from (size .legs) ⌝ }
     ensures { λ r. ⌜ Visited (planned (netIn (now (net .entry)))) (query ask) (now (cells .entry)) (now (cells .exit)) (now (low .entry)) (now (low .exit)) ⌝ }
 {
@@ -149,7 +188,18 @@ fn ride_legs(net: &[u8], size: Size, chart: &[u32; 512], last: &[usize; 64], bef
 }
 
 // A visit of p: its row is settled from the first column that changed, and ridden from there along all its legs.
-fn visit(net: &[u8], size: Size, chart: &[u32; 512], last: &[usize; 64], before: &[usize; 512], ask: Ask, p: usize, row: &mut [u32], cells: &mut [u32], low: &mut [usize])
+fn visit(
+    net: &[u8],
+    size: Size,
+    chart: &[u32; 512],
+    last: &[usize; 64],
+    before: &[usize; 512],
+    ask: Ask,
+    p: usize,
+    row: &mut [u32],
+    cells: &mut [u32],
+    low: &mut [usize],
+)
     requires { ⌜ Ready (now net) size ask (now chart) (now last) (now before) × (p < size .places) × (columns ask ≤ length (now row)) × (at (now low) p < columns ask) × Kept (planned (netIn (now net))) (query ask) (now cells) (now low) Never ⌝ }
     ensures { λ r. ⌜ Visited (planned (netIn (now (net .entry)))) (query ask) (now (cells .entry)) (now (cells .exit)) (set (now (low .entry)) p (columns ask)) (now (low .exit)) ⌝ }
 {
@@ -157,7 +207,19 @@ fn visit(net: &[u8], size: Size, chart: &[u32; 512], last: &[usize; 64], before:
     let from = low[p];
     low[p] = w;
     rows::settle_row(cells, w, p, from, row);
-    ride_legs(net, size, chart, last, before, ask, p, row, from, cells, low);
+    ride_legs(
+        net,
+        size,
+        chart,
+        last,
+        before,
+        ask,
+        p,
+        row,
+        from,
+        cells,
+        low,
+    );
 }
 
 // The first of the places from..until that has something new to pass on, or `until`.
@@ -192,7 +254,17 @@ fn next(low: &[usize], p: usize, places: usize, w: usize) -> usize
 }
 
 // Visits, until no place has anything new to pass on.
-fn sweep(net: &[u8], size: Size, chart: &[u32; 512], last: &[usize; 64], before: &[usize; 512], ask: Ask, row: &mut [u32], cells: &mut [u32], low: &mut [usize])
+fn sweep(
+    net: &[u8],
+    size: Size,
+    chart: &[u32; 512],
+    last: &[usize; 64],
+    before: &[usize; 512],
+    ask: Ask,
+    row: &mut [u32],
+    cells: &mut [u32],
+    low: &mut [usize],
+)
     requires { ⌜ Ready (now net) size ask (now chart) (now last) (now before) × (columns ask ≤ length (now row)) × (length (now low) ≡ 64) × Kept (planned (netIn (now net))) (query ask) (now cells) (now low) Never ⌝ }
     ensures { λ r. ⌜ Clean (planned (netIn (now (net .entry)))) (query ask) (now (cells .exit)) (now (low .exit)) ⌝ }
 {
@@ -263,5 +335,15 @@ pub fn fill(net: &[u8], size: Size, start: u32, earliest: u32, latest: u32, cell
     let mut row = [0u32; 2880];
     chain(net, size, &chart, &mut last, &mut before);
     outset(start as usize, width(ask), cells, &mut low);
-    sweep(net, size, &chart, &last, &before, ask, &mut row, cells, &mut low);
+    sweep(
+        net,
+        size,
+        &chart,
+        &last,
+        &before,
+        ask,
+        &mut row,
+        cells,
+        &mut low,
+    );
 }
