@@ -63,14 +63,14 @@ pub fn first_lower(
     requires { ⌜ (from ≤ until) × (until ≤ length (now row)) × (until + time ≤ length (now part)) × (add < 1000000000000) ⌝ }
     ensures { λ r. ⌜ Search (now (part .entry)) (now (row .entry)) from until time add r ⌝ }
 {
-    let mut j = from;
-    while j < until {
-        if wide(row[j]) + add < wide(part[j + time]) {
-            return j;
+    let mut i = from;
+    while i < until {
+        if wide(row[i]) + add < wide(part[i + time]) {
+            return i;
         }
-        j += 1;
+        i += 1;
     }
-    j
+    i
 }
 
 // Rides from the columns from..until: a cell reached becomes what the ride gives, where that is smaller. Sums are in u64, so that

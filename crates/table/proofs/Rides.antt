@@ -136,11 +136,11 @@ module _ (leg : Leg) (earliest w from : ℕ) (row : List ℕ) where
         falls j (inr a) = omega (arith, a .lower)
 
   -- from the columns of band k that the code finds
-  pub rode-band : (old new : List ℕ) (k begin until add first : ℕ) → Banded leg → k < leg .count → leg .to * w + w ≤ length old
+  pub rode-band : (old new : List ℕ) (k begin until add first : ℕ) → LowerRow old new row w (leg .to) begin until (leg .time .0) add first
+      → Banded leg → k < leg .count → leg .to * w + w ≤ length old
       → begin ≡ max from (bandStart leg k - earliest) → until ≡ min (bandStart leg (k + 1) - earliest) (w - leg .time .0) → add ≡ 64 * tollOf leg k + 1
-      → LowerRow old new row w (leg .to) begin until (leg .time .0) add first
       → Rode leg earliest w from old new row first (bandStart leg k) (bandStart leg (k + 1))
-  rode-band old new k begin until add first b known fits begins ends gives l =
+  rode-band old new k begin until add first l b known fits begins ends gives =
       rode-lowered old new (tollOf leg k) first (bandStart leg k) (bandStart leg (k + 1)) fits
       (λ i f a h. toll-within leg b k (earliest + i) known a h)
       (rw (begins, ends, gives) at l)

@@ -53,8 +53,8 @@ shared-slice-read-wide-2 c = search needs
 wide-requires-2 : tie.Need-wide-requires-2 Inv-loop μ-loop
 wide-requires-2 c κs = search needs
 
-add-j : tie.Need-add-j Inv-loop μ-loop
-add-j c = search needs
+add-i : tie.Need-add-i Inv-loop μ-loop
+add-i c = search needs
 
 loop-less : tie.Need-loop-less Inv-loop μ-loop
 loop-less c = search needs
@@ -62,7 +62,7 @@ loop-less c = search needs
 loop-again : tie.Need-loop-again Inv-loop μ-loop
 loop-again c =
     let l = c .before .before .before .before .before .before .loop in
-    (omega arith, omega arith, l .inv .2, l .inv .3, l .inv .4, search-more (c .before .before .before .before .before .before .before .before .before .args .part .now) (c .before .before .before .before .before .before .before .before .before .args .row .now) (c .before .before .before .before .before .before .before .before .before .args .from) (l .j) (c .before .before .before .before .before .before .before .before .before .args .time) (c .before .before .before .before .before .before .before .before .before .args .add) (l .inv .5) (omega arith))
+    (omega arith, omega arith, l .inv .2, l .inv .3, l .inv .4, search-more (c .before .before .before .before .before .before .before .before .before .args .part .now) (c .before .before .before .before .before .before .before .before .before .args .row .now) (c .before .before .before .before .before .before .before .before .before .args .from) (l .i) (c .before .before .before .before .before .before .before .before .before .args .time) (c .before .before .before .before .before .before .before .before .before .args .add) (l .inv .5) (omega arith))
 
 pub first-lower-spec : {M : Type 1} → statement M
 first-lower-spec =
@@ -80,7 +80,7 @@ first-lower-spec =
     shared-slice-read-wide-2
     wide-requires-2
     returns
-    add-j
+    add-i
     loop-less
     loop-again
     returns-2)

@@ -10,12 +10,12 @@ returns c = search needs
 returns-2 : tie.Need-returns-2
 returns-2 c =
     let a = c .before .before .before .before .before .args in
-    next-behind (a .low .now) (a .p) (a .places) (a .w) (c .before .before .before .first-new .result) (c .before .before .before .first-new .ensures) (c .before .first-new2 .result) (c .before .first-new2 .ensures) (omega arith) (omega arith) (c .if2 .taken)
+    next-behind (a .low .now) (a .p) (a .places) (a .w) (c .before .before .before .first-new .result) (c .before .before .before .first-new .ensures) (c .before .first-new2 .result) (c .before .first-new2 .ensures) (omega arith) (omega arith) (omega arith)
 
 returns-3 : tie.Need-returns-3
 returns-3 c =
     let a = c .before .before .before .before .before .args in
-    next-none (a .low .now) (a .p) (a .places) (a .w) (c .before .before .before .first-new .result) (c .before .before .before .first-new .ensures) (c .before .first-new2 .result) (c .before .first-new2 .ensures) (omega arith) (omega arith) (c .if2 .left)
+    next-none (a .low .now) (a .p) (a .places) (a .w) (c .before .before .before .first-new .result) (c .before .before .before .first-new .ensures) (c .before .first-new2 .result) (c .before .first-new2 .ensures) (omega arith) (omega arith) (omega arith)
 
 first-new-requires : tie.Need-first-new-requires
 first-new-requires c κs = search needs

@@ -17,12 +17,13 @@ returns c =
 
 returns-2 : tie.Need-returns-2
 returns-2 c =
-    let a = c .before .before .before .before .before .before .before .before .before .before .before .before .before .before .before .before .before .before .before .args in
-    rode-band (a .leg) (a .earliest) (a .w) (a .from) (a .row .now) (a .cells .now) (c .before .before .lower-row .last .0) (a .k) (c .before .before .before .before .before .before .before .before .before .before .before .greater .result) (c .before .before .before .before .before .before .before .lesser .result)
-    (64 * c .before .before .before .wide .result + 1) (c .before .before .lower-row .result) (c .before .before .before .before .before .before .before .before .before .before .before .before .before .before .before .before .before .before .before .pre .4) (c .before .before .before .before .before .before .before .before .before .before .before .before .before .before .before .before .before .before .before .pre .0) (c .before .before .before .before .before .before .before .before .before .before .before .before .before .before .before .before .before .before .before .pre .1)
+    let start = c .before .before .before .before .before .before .before .before .before .before .before .before .before .before .before .before .before .before .before in
+    let a = start .args in
+    rode-band (a .leg) (a .earliest) (a .w) (a .from) (a .row .now) (a .cells .now) (c .before .before .lower-row .last .0) (a .k) _ _ _ (c .before .before .lower-row .result)
+    (c .before .before .lower-row .ensures) (start .pre .4) (start .pre .0) (start .pre .1)
     (c .before .before .before .before .before .before .before .before .before .before .before .greater .ensures ∙ rw (c .before .before .before .before .before .before .before .before .before .before .before .before .less .ensures, c .before .before .before .before .before .before .before .before .before .before .before .before .before .band-start .ensures))
     (c .before .before .before .before .before .before .before .lesser .ensures ∙ rw (c .before .before .before .before .before .before .before .before .before .less2 .ensures, c .before .before .before .before .before .before .before .before .less3 .ensures, c .before .before .before .before .before .before .before .before .before .before .band-start2 .ensures))
-    (omega (arith, c .before .before .before .wide .ensures .0)) (c .before .before .lower-row .ensures)
+    (omega (arith, c .before .before .before .wide .ensures .0))
 
 mul-band : tie.Need-mul-band
 mul-band c = search needs

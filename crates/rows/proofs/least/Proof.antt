@@ -1,0 +1,13 @@
+-- `rows::least`: written out, so that a wrong program is refused here.
+use native.Mathlib.Omega.{arith}
+use Rattle.rows.proofs.least.Statement.{statement}
+use Rattle.rows.proofs.least.Tie as tie
+
+returns : tie.Need-returns
+returns c = omega arith
+
+returns-2 : tie.Need-returns-2
+returns-2 c = omega arith
+
+pub least-spec : {M : Type 1} → statement M
+least-spec = tie.close (tie.spec returns returns-2)
