@@ -1,7 +1,7 @@
 -- The plan file's laws: how long it is, that its fields are taken back, and that file and record determine one another.
 use Prim.Native.Nat.{ℕ, _+_, _-_, _*_, _<_}
 use native.Mathlib.Omega.{arith}
-use mathlib.Core.Path.{_≡_, refl, sym, ap, _∙_}
+use mathlib.Core.Path.{_≡_, refl, sym, ap, _∙_, subst}
 use mathlib.Core.List.{List, [], _∷_}
 use lib.ListN.{length, getD}
 use Rattle.bits.specs.Field.{field}
@@ -9,6 +9,8 @@ use Rattle.bits.specs.Packed.{item, bitsOf, Holds}
 use Rattle.bits.proofs.Packing.{bits-append, holds-none, holds-cons, holds-head, holds-tail, holds-append, holds-first, holds-last, packed-of-read, packed-unique}
 use Rattle.plan.specs.Network.{Query}
 use Rattle.plan.specs.Plan.{Ride}
+use Rattle.plan_file.specs.Puts.{Puts}
+use Rattle.plan_file.proofs.Puts.{puts-then, puts-front, puts-packed}
 use Rattle.plan_file.specs.PlanFile.{PlanFile, rideOf, rideFields, ridesFields, headFields, planFields, planBytes, FileOf}
 
 -- 21 bits a ride
@@ -152,3 +154,28 @@ one-plan f g s h k =
 
     same : {x y : PlanFile} → x .verdict ≡ y .verdict → x .query ≡ y .query → x .price ≡ y .price → x .rides ≡ y .rides → x ≡ y
     same e₁ e₂ e₃ e₄ = λ i. record { verdict = e₁ i; query = e₂ i; price = e₃ i; rides = e₄ i }
+
+-- THE RIDES ARE PUT FROM THE LAST TO THE FIRST: none, and one in front of which the others are put afterwards
+pub puts-no-rides : (s : List ℕ) (at : ℕ) → ((i : ℕ) → getD s i 0 < 256) → Puts s s at (ridesFields [])
+unfolding ridesFields
+puts-no-rides s at byte =
+    record {
+      same-length = refl;
+      holds = holds-none s at;
+      bits-before = λ p to. refl;
+      bits-after = λ p from. refl;
+      byte = byte;
+    }
+
+pub puts-ride : (s t u : List ℕ) (at : ℕ) (r : Ride) (rs : List Ride) → Puts s t (at + 21 * length rs) (rideFields r) → Puts t u at (ridesFields rs)
+    → Puts s u at (ridesFields (r ∷ rs))
+unfolding ridesFields
+puts-ride s t u at r rs h k =
+    puts-front (subst (λ (n : ℕ). Puts s t (at + n) (rideFields r)) (sym (rides-bits rs)) h) k
+
+-- behind the head they make the whole file
+pub puts-file : (s t u : List ℕ) (f : PlanFile) → ((i : ℕ) → getD s i 0 ≡ 0) → length s ≡ planBytes (length (f .rides))
+    → Puts s t 0 (headFields (f .verdict) (f .query) (f .price) (length (f .rides))) → Puts t u 89 (ridesFields (f .rides)) → FileOf f u
+puts-file s t u f zeros size h k =
+    puts-packed zeros (size ∙ omega (arith, plan-bits f))
+    (puts-then {fs = headFields (f .verdict) (f .query) (f .price) (length (f .rides))} h k)
