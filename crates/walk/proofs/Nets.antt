@@ -3,29 +3,32 @@ use Prim.Native.Nat.{ℕ, zero, suc, _+_, _*_, _≤_, _<_}
 use native.Mathlib.Omega.{arith}
 use native.Mathlib.Nat.{mul-le-mul-right, add-mul}
 use mathlib.Core.Path.{_≡_, refl, sym, ap, _∙_, subst}
-use mathlib.Core.Bool.{Bool, true, false}
 use mathlib.Core.List.{List}
-use lib.Dec.{T, leb}
+use lib.Dec.{T}
 use lib.ListN.{length, getD}
-use Rattle.leg.specs.declared.Band.{Band}
 use Rattle.leg.specs.declared.Leg.{Leg}
-use Rattle.leg.specs.Ranges.{noBand}
-use Rattle.leg.specs.Toll.{either, tollOfFirst, tollAt}
-use Rattle.source.specs.Source.{fileOf}
+use Rattle.leg.specs.Toll.{tollAt}
+use Rattle.bits.specs.Field.{field}
+use borrow.Author.Tests.{leb-true}
+use Rattle.source.specs.Source.{Source, fileOf}
+use Rattle.network.specs.declared.Head.{Head}
+use Rattle.network.specs.Reading.{found}
 use Rattle.network.specs.declared.NetworkFound.{NetworkFound}
 use Rattle.network.specs.declared.Size.{Size}
-use Rattle.network.specs.Network.{Network as FileNetwork, edition1, leg, ofFile}
+use Rattle.network.specs.Network.{Network as FileNetwork, edition1, band, bands, bare, withBand, head, leg, ofFile}
 use Rattle.network.specs.Answers.{legFound, networkFound}
+use Rattle.network.proofs.Inversion.{inner-step, head-inv}
 use Rattle.network.proofs.Sound.{SoundLeg, SoundNetwork}
 use Rattle.network.proofs.Files.{SoundFile, sound-file}
 use Rattle.plan.specs.Network.{Minute, Network, InRange, Query, Within}
 use Rattle.plan.specs.Table.{width}
 use Rattle.plan.specs.Legs.{noLeg, networkOf}
+use Rattle.plan.proofs.Legs.{legs-in-range}
 use Rattle.plan.proofs.Walk.{Fits}
 use Rattle.chart.specs.Chart.{Chart}
 use Rattle.chart.proofs.Charting.{charted-leg}
 use Rattle.walk.specs.Cells.{InTable}
-use Rattle.walk.specs.Walk.{theNet, netOf, LegFits, ReadsFrom}
+use Rattle.walk.specs.Walk.{theNet, netOf, LegFits, LegStands, ReadsFrom}
 
 -- leg k of the network is this one
 pub record HasLeg (N : Network) (k : ℕ) (l : Leg) : Type 0 where
@@ -57,7 +60,7 @@ module _ (N : Network) (q : Query) (c : ℕ → Minute → ℕ) (k : ℕ) (l : L
       }
 
 -- the row of a place is in the table
-row-room : (w n p places : ℕ) → p + 1 ≤ places → places * w ≤ n → p * w + w ≤ n
+pub row-room : (w n p places : ℕ) → p + 1 ≤ places → places * w ≤ n → p * w + w ≤ n
 row-room w n p places below room =
     let whole = mul-le-mul-right {m = p + 1} {n = places} w below in
     omega (arith, whole, room, add-mul p 1 w)
@@ -66,27 +69,30 @@ pub reads-from : (l : Leg) (cells : List ℕ) (q : Query) (places : ℕ) → pla
 reads-from l cells q places few s room =
     record { place = omega (arith, s .from-below); room = row-room (width q) (length cells) (l .from) places (omega (arith, s .from-below)) room }
 
--- the toll of sound bands is in range
-toll-bound : (n : ℕ) (bands : List Band) (t : Minute) → ((k : ℕ) → k < n → getD bands k noBand .toll .0 ≤ 65535) → tollOfFirst n bands t ≤ 65535
-unfolding tollOfFirst either
-toll-bound zero bands t h = omega arith
-toll-bound (suc n) bands t h =
-    pick (leb (getD bands n noBand .start .0) t) (h n (omega arith)) (toll-bound n bands t (λ k below. h k (omega arith)))
-  where
-    pick : (b : Bool) {x y : ℕ} → x ≤ 65535 → y ≤ 65535 → either b x y ≤ 65535
-    pick true h k = h
-    pick false h k = k
+-- where a leg goes to, straight from the file
+bands-keep : (src : Source) (n least : ℕ) (l : Leg) (at : ℕ) (l′ : Leg) (end : ℕ) → bands n least l src at ≡ found l′ end → l′ .to ≡ l .to
+unfolding bands
+bands-keep src zero least l at l′ end e = let same : l′ ≡ l = cc in ap (λ (x : Leg). x .to) same
+bands-keep src (suc n) least l at l′ end e =
+    let b = inner-step l′ end (band least src at) (λ b after. bands n (b .start .0 + 1) (withBand l b) src after) e in
+    bands-keep src n (b .0 .start .0 + 1) (withBand l (b .0)) (b .1) l′ end (b .3)
+
+leg-target : (s : List ℕ) (places at : ℕ) (l : Leg) (end : ℕ) → leg edition1 places (fileOf s) at ≡ found l end
+    → (l .to ≡ field s (at + 6) 6) × (at + 12 ≤ 8 * length s)
+leg-target s places at l end e =
+    let src = fileOf s in
+    let h = inner-step l end (head edition1 places src at) (λ h after. bands (h .count) 0 (bare edition1 h) src after) e in
+    let r = head-inv src at edition1 places (h .0) (h .1) (h .2) in (
+      bands-keep src (h .0 .count) 0 (bare edition1 (h .0)) (h .1) l end (h .3) ∙ ap (λ (x : Head). x .to) (r .head-is),
+      omega (arith, leb-true (at + 6 + 6) (8 * length s) (r .to-there)),
+    )
 
 -- THE RANGES that a sound network keeps
 pub sound-ranges : (net : FileNetwork) → SoundNetwork net → InRange (networkOf (net .places) (net .legs))
 sound-ranges net s =
-    record {
-      few = s .few-places;
-      sources = λ l h. s .each-leg l noLeg h .from-below;
-      targets = λ l h. s .each-leg l noLeg h .to-below;
-      tolls = λ l d h.
-          toll-bound (getD (net .legs) l noLeg .count) (getD (net .legs) l noLeg .bands) d (s .each-leg l noLeg h .tolls-within);
-    }
+    legs-in-range (net .places) (net .legs) (s .few-places) λ l h.
+    let leg = s .each-leg l noLeg h in
+    record { source = leg .from-below; target = leg .to-below; tolls = leg .tolls-within }
 
 module _ (s : List ℕ) (size : Size) (ok : networkFound (ofFile s) ≡ NetworkFound.Sound size) where
   pub net-is : (f : SoundFile s size) → netOf s ≡ networkOf (f .net .places) (f .net .legs)
@@ -120,8 +126,25 @@ module _ (s : List ℕ) (size : Size) (ok : networkFound (ofFile s) ≡ NetworkF
         room = row-room (width q) (length cells) p (size .places) below room;
       }
 
-  pub chart-near : (chart : List ℕ) → Chart s chart → (k : ℕ) → getD chart k 0 ≤ 200000
-  chart-near chart charted k = let f = sound-file s size ok in charted (f .net) (f .end) (f .stands) .near k
+  -- the leg that the chart gives stands there
+  pub leg-stands : (chart : List ℕ) → Chart s chart → (k : ℕ) → k < size .legs → LegStands s (size .places) (getD chart k 0)
+  leg-stands chart charted k below =
+      let f = sound-file s size ok in
+      let places : f .net .places ≡ size .places = ap (λ (z : Size). z .places) (sym (f .size-is)) in
+      let c = charted (f .net) (f .end) (f .stands) in
+      let within : k < length (f .net .legs) = omega (arith, ap (λ (z : Size). z .legs) (f .size-is)) in
+      let e = c .stands k within in
+      let t = leg-target s (f .net .places) (getD chart k 0) (getD (f .net .legs) k noLeg) (e .0) (e .1) in
+      let is = charted-leg s (f .net) chart c k within in
+      let sound = f .sound .each-leg k noLeg within in
+      subst (λ (n : ℕ). LegStands s n (getD chart k 0)) places
+      (record {
+        near = c .near k;
+        there = t .1;
+        target = ap (λ (x : Leg). x .to) is ∙ t .0;
+        few-bands = omega (arith, ap (λ (x : Leg). x .count) is, sound .few-bands);
+        time-within = omega (arith, ap (λ (x : Leg). x .time .0) is, sound .time-within);
+      })
 
   -- THE LEG that the chart gives is the network's
   module _ (chart : List ℕ) (charted : Chart s chart) (k : ℕ) (below : k < size .legs) (l : Leg)

@@ -5,13 +5,15 @@ use mathlib.Core.Logic.{_≢_}
 use mathlib.Core.Bool.{Bool, true, false}
 use mathlib.Core.List.{List, []}
 use lib.ListN.{length}
+use Rattle.bits.specs.Field.{field}
 use Rattle.leg.specs.declared.Leg.{Leg}
 use Rattle.leg.specs.Toll.{tollAt}
 use Rattle.network.specs.declared.NetworkFound.{NetworkFound}
 use Rattle.network.specs.declared.Size.{Size}
 use Rattle.network.specs.Reading.{Found, refused, found}
-use Rattle.network.specs.Network.{Network as FileNetwork, ofFile}
-use Rattle.network.specs.Answers.{networkFound}
+use Rattle.source.specs.Source.{fileOf}
+use Rattle.network.specs.Network.{Network as FileNetwork, edition1, leg, ofFile}
+use Rattle.network.specs.Answers.{legFound, networkFound}
 use Rattle.plan.specs.Network.{Minute, Network, Query, Askable, Within}
 use Rattle.plan.specs.Plan.{Ride, cost}
 use Rattle.plan.specs.Tie.{Named}
@@ -48,6 +50,18 @@ pub record LegFits (q : Query) (c : ℕ → Minute → ℕ) (l : Leg) (p : ℕ) 
   pub early : q .earliest ≤ d
   pub arrives : d + l .time .0 ≡ a
   pub explains : c (l .from) d + (64 * tollAt l d + 1) ≡ c p a
+
+-- the leg at a bit of the file
+abbrev pub legAt : List ℕ → ℕ → ℕ → Leg
+legAt s places at = legFound (leg edition1 places (fileOf s) at) .leg
+
+-- a leg stands at this bit: where it goes to stands 6 bits further on
+pub record LegStands (s : List ℕ) (places at : ℕ) : Type 0 where
+  pub near : at ≤ 200000
+  pub there : at + 12 ≤ 8 * length s
+  pub target : legAt s places at .to ≡ field s (at + 6) 6
+  pub few-bands : legAt s places at .count ≤ 8
+  pub time-within : legAt s places at .time .0 ≤ 2879
 
 -- the cells of the place that a leg leaves from are in the table
 pub record ReadsFrom (l : Leg) (cells : List ℕ) (q : Query) : Type 0 where

@@ -6,7 +6,7 @@ ghost use lib.ListN.{length};
 ghost use Rattle.plan.specs.Table.{cellAt};
 ghost use Rattle.plan_file.specs.PlanFile.{InWidth, queryOf, planBytes, noneFile, FileOf};
 ghost use Rattle.walk.specs.Cells.{InTable, FirstLike};
-ghost use Rattle.walk.specs.Walk.{netOf, Walkable, Tells, ReadsFrom, Departing, Arriving, Hops, RoomFor, Walked, Ending, NamedFile};
+ghost use Rattle.walk.specs.Walk.{netOf, Walkable, Tells, legAt, LegStands, ReadsFrom, Departing, Arriving, Hops, RoomFor, Walked, Ending, NamedFile};
 use leg::Cents;
 use leg::Leg;
 use leg::Minute;
@@ -74,6 +74,26 @@ fn explains(leg: Leg, cells: &[u32], query: Query, place: u32, arrival: Minute) 
     }
 }
 
+// The same of the leg at a bit of the file, which is decoded only if it goes to the place.
+fn explains_at(
+    net: &[u8],
+    at: u32,
+    places: u32,
+    cells: &[u32],
+    query: Query,
+    place: u32,
+    arrival: Minute,
+) -> bool
+    requires { ⌜ LegStands (now net) places at × InTable (now cells) (queryOf query) place (arrival .0)
+        × ReadsFrom (legAt (now net) places at) (now cells) (queryOf query) ⌝ }
+    ensures { λ r. ⌜ Tells r (queryOf query) (cellAt (queryOf query) (now (cells .entry))) (legAt (now (net .entry)) places at) place (arrival .0) ⌝ }
+{
+    if bits::take(net, at as usize + 6, 6) != place {
+        return false;
+    }
+    explains(chart::leg_at(net, places, at), cells, query, place, arrival)
+}
+
 // The lowest leg that arrives at this place and minute and explains the cell there.
 fn find_leg(
     net: &[u8],
@@ -91,8 +111,9 @@ fn find_leg(
     let legs = size.legs;
     let mut k = 0;
     while k < legs {
-        let leg = chart::leg_at(net, size.places, chart[k]);
-        if explains(leg, cells, query, place, arrival) {
+        let at = chart[k];
+        if explains_at(net, at, size.places, cells, query, place, arrival) {
+            let leg = chart::leg_at(net, size.places, at);
             let time = leg.time;
             return Hop {
                 leg: k as u32,
