@@ -16,6 +16,10 @@ use Rattle.plan.specs.Table.{width, cellAt, MinuteTable}
 use Rattle.plan_file.specs.PlanFile.{PlanFile, planBytes, planFile, noneFile, FileOf}
 use Rattle.plan_call.specs.Judge.{Judged, refuse, serve, judged}
 
+-- the query that the four numbers make
+abbrev pub asking : ℕ → ℕ → ℕ → ℕ → Query
+asking start end earliest latest = record { start = start; end = end; earliest = earliest; latest = latest }
+
 -- what the file says and the answer that goes with it, if there is room: the named plan and its cost, or "none" where no plan is feasible
 pub data Right (N : Network) (q : Query) : PlanFile → (ℕ → PlanAnswer) → Type 0 where
   plan : (rides : List Ride) → Named N q rides → Right N q (planFile N q rides) PlanAnswer.Done

@@ -7,7 +7,9 @@ use Rattle.network.specs.declared.NetworkFound.{NetworkFound}
 use Rattle.network.specs.declared.Size.{Size}
 use Rattle.network.specs.Network.{ofFile}
 use Rattle.network.specs.Answers.{networkFound}
-use Rattle.plan.specs.Network.{Askable}
+use Rattle.answer.specs.declared.PlanAnswer.{PlanAnswer}
+use Rattle.plan.specs.Network.{Network, Query, Askable}
+use Rattle.plan_call.specs.Call.{Answered}
 use Rattle.plan.specs.Table.{width, cellAt, MinuteTable}
 use Rattle.plan_file.specs.declared.Query.{Query as Asked}
 use Rattle.plan_file.specs.PlanFile.{queryOf}
@@ -24,3 +26,9 @@ pub record Tabled (s : List ℕ) (size : Size) (a : Asked) (cells : List ℕ) : 
   pub servable : Servable s size a
   pub room : length cells ≡ size .places * width (queryOf a)
   pub table : MinuteTable (netOf s) (queryOf a) (cellAt (queryOf a) cells)
+
+-- the cells are filled, and the answer given
+pub record Serves (N : Network) (q : Query) (cells cells′ out out′ : List ℕ) (answer : PlanAnswer) : Type 0 where
+  pub long : length cells′ ≡ length cells
+  pub table : MinuteTable N q (cellAt q cells′)
+  pub answered : Answered N q out out′ answer
