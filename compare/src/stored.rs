@@ -437,10 +437,19 @@ fn source_cases() -> Vec<Case> {
     ]
 }
 
+/// The largest network: its file of 16,132 bytes and its list of 10,243 numbers. A reader needs room for one more.
+fn largest() -> (Vec<u8>, Vec<u32>) {
+    let net = make::largest(&mut Dice::new(16_132));
+    (network::file_of(&net), network::list_of(&net))
+}
+
 /// The files by name, with their cases.
 fn files() -> Vec<(&'static str, Vec<Case>)> {
     let mut out: Vec<(&str, Vec<Case>)> = ALL.map(|call| (call.name(), cases(call))).to_vec();
     out.push(("source", source_cases()));
+    let (file, list) = largest();
+    out.push(("read_largest", vec![read(&file, list.len() + 1)]));
+    out.push(("write_largest", vec![write(&list, file.len() + 1)]));
     out
 }
 
