@@ -1,0 +1,124 @@
+// One row of the minute table: a stretch of the lent cells, lowered where it stands. Columns are minutes after earliest.
+ghost use mathlib.Core.Path.{_≡_};
+ghost use Prim.Native.Nat.{_+_, _*_, _-_, _≤_, _<_, min};
+ghost use lib.ListN.{length, getD, replicate};
+ghost use Rattle.rows.specs.Row.{Search, Lower, Settle};
+ghost use Rattle.rows.specs.Whole.{SettleRow, LowerRow};
+
+fn wide(x: u32) -> u64
+    ensures { λ r. ⌜ (r ≡ x) × (r < 4294967296) ⌝ }
+{
+    x as u64
+}
+
+fn least(a: u32, b: u32) -> u32
+    ensures { λ r. ⌜ r ≡ min a b ⌝ }
+{
+    if a < b { a } else { b }
+}
+
+// Every cell becomes `value`.
+pub fn blank(part: &mut [u32], value: u32)
+    ensures { λ r. ⌜ now (part .exit) ≡ replicate (length (now (part .entry))) value ⌝ }
+{
+    let mut j = 0;
+    while j < part.len() {
+        part[j] = value;
+        j += 1;
+    }
+}
+
+// What stands just before a column; at the first column, what stands there.
+fn just_before(part: &[u32], from: usize) -> u32
+    requires { ⌜ from < length (now part) ⌝ }
+    ensures { λ r. ⌜ r ≡ getD (now (part .entry)) (from - 1) 0 ⌝ }
+{
+    if from == 0 { part[0] } else { part[from - 1] }
+}
+
+// Waiting costs nothing: from a column on, no cell is above the one before it. The settled cells are copied into `row`.
+pub fn settle(part: &mut [u32], from: usize, row: &mut [u32])
+    requires { ⌜ (from < length (now part)) × (length (now part) ≤ length (now row)) ⌝ }
+    ensures { λ r. ⌜ Settle (now (part .entry)) (now (part .exit)) (now (row .exit)) from (length (now (part .entry))) ⌝ }
+{
+    let mut best = just_before(part, from);
+    let mut j = from;
+    while j < part.len() {
+        best = least(part[j], best);
+        part[j] = best;
+        row[j] = best;
+        j += 1;
+    }
+}
+
+// The first of the columns from..until whose ride arrives below what stands there, or `until`.
+pub fn first_lower(
+    part: &[u32],
+    row: &[u32],
+    from: usize,
+    until: usize,
+    time: usize,
+    add: u64,
+) -> usize
+    requires { ⌜ (from ≤ until) × (until ≤ length (now row)) × (until + time ≤ length (now part)) × (add < 1000000000000) ⌝ }
+    ensures { λ r. ⌜ Search (now (part .entry)) (now (row .entry)) from until time add r ⌝ }
+{
+    let mut j = from;
+    while j < until {
+        if wide(row[j]) + add < wide(part[j + time]) {
+            return j;
+        }
+        j += 1;
+    }
+    j
+}
+
+// Rides from the columns from..until: a cell reached becomes what the ride gives, where that is smaller. Sums are in u64, so that
+// "no plan" plus anything is never stored.
+pub fn lower(part: &mut [u32], row: &[u32], from: usize, until: usize, time: usize, add: u64)
+    requires { ⌜ (from ≤ until) × (until ≤ length (now row)) × (until + time ≤ length (now part)) × (add < 1000000000000) ⌝ }
+    ensures { λ r. ⌜ Lower (now (part .entry)) (now (part .exit)) (now (row .entry)) from until time add ⌝ }
+{
+    let mut j = from;
+    while j < until {
+        let candidate = wide(row[j]) + add;
+        if candidate < wide(part[j + time]) {
+            part[j + time] = candidate as u32;
+        }
+        j += 1;
+    }
+}
+
+// The row of place p is the stretch of w cells from p * w on: settled there.
+pub fn settle_row(cells: &mut [u32], w: usize, p: usize, from: usize, row: &mut [u32])
+    requires { ⌜ (p * w + w ≤ length (now cells)) × (from < w) × (w ≤ length (now row)) ⌝ }
+    ensures { λ r. ⌜ SettleRow (now (cells .entry)) (now (cells .exit)) (now (row .exit)) w p from ⌝ }
+{
+    let start = p * w;
+    let end = start + w;
+    settle(&mut cells[start..end], from, row);
+}
+
+// The row of place p, lowered along a ride from the columns from..until: the first column that changed, or w.
+pub fn lower_row(
+    cells: &mut [u32],
+    w: usize,
+    p: usize,
+    row: &[u32],
+    from: usize,
+    until: usize,
+    time: usize,
+    add: u64,
+) -> usize
+    requires { ⌜ (p * w + w ≤ length (now cells)) × (from ≤ until) × (until ≤ length (now row)) × (until + time ≤ w) × (add < 1000000000000) ⌝ }
+    ensures { λ r. ⌜ LowerRow (now (cells .entry)) (now (cells .exit)) (now (row .entry)) w p from until time add r ⌝ }
+{
+    let start = p * w;
+    let end = start + w;
+    let first = first_lower(&cells[start..end], row, from, until, time, add);
+    if first == until {
+        return w;
+    }
+    lower(&mut cells[start..end], row, first, until, time, add);
+    first + time
+}

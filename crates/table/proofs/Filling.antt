@@ -1,0 +1,84 @@
+-- The table, filled.
+use Prim.Native.Nat.{ℕ, _+_, _*_, _-_, _≤_, _<_}
+use native.Mathlib.Omega.{arith}
+use mathlib.Core.Path.{_≡_, refl, sym, _∙_, ap, subst}
+use mathlib.Core.List.{List}
+use lib.ListN.{length, set, take, drop, replicate, length-set, length-replicate}
+use borrow.Rule.Slice.PartMut.{putMid}
+use Rattle.plan.specs.Network as Plan
+use Rattle.plan.specs.Table.{noPlan, MinuteTable, cellAt}
+use Rattle.network.specs.declared.Size.{Size}
+use Rattle.network.specs.Reading.{found}
+use Rattle.network.specs.Network.{Network, ofFile}
+use Rattle.rows.specs.Row.{at}
+use Rattle.rows.proofs.Wholes.{row-length}
+use Rattle.table.specs.declared.Ask.{Ask}
+use Rattle.table.specs.Ask.{Askable, columns, query, queryTo, netIn, planned}
+use Rattle.table.specs.Kept.{Kept, Never, Clean, Outset}
+use Rattle.table.specs.Filled.{asked, Fillable, Filled}
+use Rattle.table.proofs.Keeping.{row-fits}
+use Rattle.table.proofs.Clean.{clean-table, outset-kept, any-end}
+use Rattle.table.proofs.InFile.{in-file, net-is, ranges-kept, few-places}
+
+module _ (s : List ℕ) (size : Size) (start earliest latest : ℕ) (cells : List ℕ) (f : Fillable s size start earliest latest cells) where
+  abbrev pub this : Ask
+  this = record { start = start; earliest = earliest; latest = latest }
+
+  pub may-ask : Askable this size
+  may-ask = record { home = f .home; window = f .window; clock = f .clock }
+
+  fill-home : start < netIn s .places
+  fill-home = omega (arith, f .home, few-places s size (f .sound) .0)
+
+  fill-long : length cells ≡ netIn s .places * columns this
+  fill-long = f .long ∙ ap (λ (n : ℕ). n * columns this) (few-places s size (f .sound) .0)
+
+  pub start-fits : (w : ℕ) → w ≡ columns this → start * w + w ≤ length cells
+  start-fits w e = rw e (row-fits (netIn s .places) (columns this) start (length cells) fill-home fill-long)
+
+  pub start-low : start < 64
+  start-low = omega (arith, f .home, few-places s size (f .sound) .1)
+
+  pub fill-begins : (w : ℕ) (cells′ low low′ : List ℕ) → w ≡ columns this → length low ≡ 64 → Outset start w cells cells′ low low′
+      → Kept (planned (netIn s)) (query this) cells′ low′ Never
+  fill-begins w cells′ low low′ wide long o =
+      let c = rw wide at (o .cells-are) in
+      let l = rw wide at (o .low-is) in
+      rw (c, l)
+      (outset-kept (planned (netIn s)) (query this) (ranges-kept (netIn s) (in-file s size (f .sound) .sound)) fill-home cells low (length low) fill-long
+      (omega (arith, long, few-places s size (f .sound) .0, few-places s size (f .sound) .1)))
+
+  plan-asked : Plan.Askable (planned (netIn s)) (query this)
+  plan-asked = record {
+    ranges = ranges-kept (netIn s) (in-file s size (f .sound) .sound);
+    home = fill-home;
+    goal = fill-home;
+    window = f .window;
+  }
+
+  pub fill-done : (cells′ low : List ℕ) → length cells′ ≡ length cells → Clean (planned (netIn s)) (query this) cells′ low
+      → Filled s start earliest latest cells cells′
+  fill-done cells′ low long c = record {
+    long = long;
+    table = λ n last stands end.
+        subst
+        (λ (m : Network). MinuteTable (planned m) (asked start end earliest latest) (cellAt (asked start end earliest latest) cells′))
+        (net-is s n last stands)
+        (any-end (planned (netIn s)) (query this) start end (cellAt (query this) cells′)
+        (clean-table (planned (netIn s)) (query this) plan-asked cells′ low (c .kept) (c .clean)));
+  }
+
+-- ---- the outset, as the code makes it
+
+pub outset-cells : (cells blanked zeros : List ℕ) (start w k : ℕ) → k ≡ w → start * w + w ≤ length cells → blanked ≡ replicate (length cells) noPlan
+    → zeros ≡ replicate (length (take k (drop (start * w) blanked))) 0
+    → putMid (start * w) k blanked zeros ≡ putMid (start * w) w (replicate (length cells) noPlan) (replicate w 0)
+outset-cells cells blanked zeros start w k size fits b z =
+    let long : length blanked ≡ length cells = ap length b ∙ length-replicate {A = ℕ} (length cells) noPlan in
+    let part : length (take k (drop (start * w) blanked)) ≡ w = rw size (row-length blanked w start (omega arith)) in
+    let zero-row : zeros ≡ replicate w 0 = z ∙ ap (λ (n : ℕ). replicate n 0) part in
+    rw (size, zero-row) (ap (λ (xs : List ℕ). putMid (start * w) w xs (replicate w 0)) b)
+
+pub outset-long : (start w : ℕ) (cells cells′ low low′ : List ℕ) → Outset start w cells cells′ low low′ → length low ≡ 64 → length low′ ≡ 64
+outset-long start w cells cells′ low low′ o long =
+    ap length (o .low-is) ∙ length-set (replicate (length low) w) start 0 ∙ length-replicate {A = ℕ} (length low) w ∙ long

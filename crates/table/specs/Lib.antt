@@ -1,0 +1,5 @@
+pub mod Ask
+pub mod Ride
+pub mod Kept
+pub mod Chains
+pub mod Filled
