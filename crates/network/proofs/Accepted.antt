@@ -1,7 +1,7 @@
 -- A network that was found: its head, its legs and the end of its source, each by itself.
 use Prim.Native.Nat.{ℕ, zero, suc, _+_, _-_, _≤_, _<_}
 use mathlib.Core.Path.{_≡_, refl, sym, _∙_, ap, subst}
-use mathlib.Core.Bool.{true, false}
+use mathlib.Core.Bool.{true}
 use mathlib.Core.List.{List, [], _∷_, _++_}
 use native.Mathlib.Omega.{arith}
 use lib.ListN.{length, length-append}
@@ -15,7 +15,7 @@ use Rattle.network.specs.Reading.{Found, refused, found}
 use Rattle.network.specs.Network.{Form, Network, leg, legs, top, body, network}
 use Rattle.network.specs.Answers.{bandsOf, sizeOf, networkFound}
 use Rattle.network.proofs.Inversion.{inner-step, check-step, TopRead, top-inv}
-use Rattle.network.proofs.Legs.{bands-of-more}
+use Rattle.network.proofs.Legs.{Passed, bands-of-more}
 
 -- the head that a network has
 abbrev pub topOf : Network → Top
@@ -47,6 +47,18 @@ module _ (form : Form) (places : ℕ) (src : Source) where
       let r = legs-prefix n (before ++ (s .0 ∷ [])) (s .1) all end (s .3) in
       (omega (arith, r .0, length-append before (s .0 ∷ [])), omega (arith, r .1, bands-of-more before (s .0)))
 
+  -- a leg that is still to come is there, and its bands count among all
+  pub passed-leg : (n at : ℕ) (all : List Leg) (end : ℕ) → legs form places n [] src at ≡ found all end
+      → (k place total : ℕ) → Passed form places n k src at place total → k < n
+      → (l : Leg) × (after : ℕ) × (leg form places src place ≡ found l after) × (total + l .count ≤ bandsOf all)
+  passed-leg n at all end sound k place total p h =
+      let b = p .before in
+      let left : n - k ≡ suc (n - (k + 1)) = omega arith in
+      let rest : legs form places (suc (n - (k + 1))) b src place ≡ found all end = rw (← left) (sym (p .rest) ∙ sound) in
+      let s = next-leg (n - (k + 1)) b place all end rest in
+      let t = legs-prefix (n - (k + 1)) (b ++ (s .0 ∷ [])) (s .1) all end (s .3) in
+      (s .0, s .1, s .2, omega (arith, t .1, bands-of-more b (s .0), p .sum))
+
 pub accepted : (form : Form) (src : Source) (net : Network) (end : ℕ) → network form src 0 ≡ found net end → Accepted form src net end
 accepted form src net end e =
     let t = inner-step net end (top src 0) (λ t at. body form t src at) e in
@@ -57,12 +69,12 @@ accepted form src net end e =
     let size : length (l .0) ≡ t .0 .legs = omega (arith, legs-prefix form (t .0 .places) src (t .0 .legs) [] (t .1) (l .0) (l .1) (l .2) .0) in
     let found-net : Network = record { places = t .0 .places; legs = l .0 } in
     let base : Accepted form src found-net (l .1) =
-        record {
-          body-at = t .1;
-          top-read = rw size (top-inv src 0 (t .0) (t .1) (t .2));
-          legs-read = rw size (l .2);
-          ends = c .0
-        } in
+    record {
+      body-at = t .1;
+      top-read = rw size (top-inv src 0 (t .0) (t .1) (t .2));
+      legs-read = rw size (l .2);
+      ends = c .0;
+    } in
     subst (λ (n : Network). Accepted form src n end) (sym is) (subst (λ (m : ℕ). Accepted form src found-net m) (sym at-end) base)
 
 -- what the judging function's answer tells

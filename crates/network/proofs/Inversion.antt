@@ -71,6 +71,12 @@ module _ (src : Source) (at : ℕ) where
   start-small least b end t =
       rw (t .band-is) (leb-true (src .value 12 at) lastMinute (t .start-within))
 
+  pub toll-small : (least : ℕ) (b : Band) (end : ℕ) → BandRead least b end → b .toll .0 ≤ mostCents
+  toll-small least b end t = rw (t .band-is) (leb-true (src .value 16 (src .after 12 at)) mostCents (t .toll-within))
+
+  pub start-after : (least : ℕ) (b : Band) (end : ℕ) → BandRead least b end → follows least (b .start .0) ≡ true
+  start-after least b end t = rw (t .band-is) (t .start-follows)
+
   -- a leg's head that was found: the places of its four fields, which are there and pass their tests
   pub record HeadRead (form : Form) (places : ℕ) (h : Head) (end : ℕ) : Type 0 where
     pub from-there : src .has 6 at ≡ true

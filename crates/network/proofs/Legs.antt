@@ -125,10 +125,10 @@ pub record Passed (form : Form) (places n k : ℕ) (src : Source) (at place tota
   pub rest : legs form places n [] src at ≡ legs form places (n - k) before src place
 
 module _ (form : Form) (places n : ℕ) (src : Source) (at : ℕ) where
-  pub passed-none : Passed form places n 0 src at at 0
+  abbrev pub passed-none : Passed form places n 0 src at at 0
   passed-none = record { before = []; size = refl; sum = refl; rest = rw sub-zero }
 
-  pub passed-more : (k place total : ℕ) (l : Leg) (after : ℕ) → Passed form places n k src at place total → k < n → leg form places src place ≡ found l after
+  abbrev pub passed-more : (k place total : ℕ) (l : Leg) (after : ℕ) → Passed form places n k src at place total → k < n → leg form places src place ≡ found l after
       → Passed form places n (k + 1) src at after (total + l .count)
   passed-more k place total l after p h e =
       let b = p .before in

@@ -6,3 +6,5 @@ pub mod Tops
 pub mod Near
 pub mod Fields
 pub mod Accepted
+pub mod Sound
+pub mod Files
