@@ -4,7 +4,7 @@ use mathlib.Core.List.{List, [], _∷_}
 use lib.Dec.{leb, ltb, eqb}
 use Rattle.answer.specs.declared.Refusal.the-variants.{SheetFile}
 use Rattle.source.specs.Source.{both, fileOf}
-use Rattle.network.specs.Reading.{Found, Reading, give, field, check, end}
+use Rattle.network.specs.Reading.{Found, Reading, _>>=_, _>>_, give, field, check, end}
 use Rattle.plan.specs.Network.{Minute, Cents, Query}
 use Rattle.plan.specs.Sheet.{Step}
 
