@@ -52,8 +52,8 @@ walking-start s leg from to q i j next a bi bj e = record {
   asked = a;
   i-held = bi .held;
   j-held = bj .held;
-  i-at = reached-begun s q from (i .next) i bi (a .from-steps);
-  j-at = reached-begun s q to (i .next + leg .time .0) j bj (a .to-steps);
+  i-at = reached-begun s q from (i .next) i bi (a .from-place .steps);
+  j-at = reached-begun s q to (i .next + leg .time .0) j bj (a .to-place .steps);
   bands = banded-none leg (i .next) next e;
   before = λ u h arrives x is. absurd (never u h x is);
   upto = held-next s i (bi .held);
@@ -62,7 +62,7 @@ walking-start s leg from to q i j next a bi bj e = record {
     never : (u : Minute) → u < i .next → (x : Cents) → value (placeAt s from) u ≡ some x → ⊥
     never u h x is =
         let first : i .next ≡ firstOf (placeAt s from) = bi .held .next-is ∙ (λ k. firstOf (bi .all k)) in
-        let nothing = none-before q (placeAt s from) (steps-sorted q (placeAt s from) (a .from-steps)) u (omega (arith, first)) in
+        let nothing = none-before q (placeAt s from) (steps-sorted q (placeAt s from) (a .from-place .steps)) u (omega (arith, first)) in
         let z : _≡_ {A = ℕ} 0 1 = cc in
         omega arith
 
@@ -86,7 +86,7 @@ module _ (s : List ℕ) (leg : Leg) (from to : ℕ) (q : Query) (i j : Cursor) (
       → RuleB (q .latest) leg (placeAt s from) (placeAt s to) → ⊥
   turn-broken no-cover rule =
       no-cover
-      (rule-covers q leg (placeAt s from) (placeAt s to) (w .asked .to-steps) d (shown (i′ .has) (i′ .price)) (shown (j′ .has) (j′ .price))
+      (rule-covers q leg (placeAt s from) (placeAt s to) (w .asked .to-place .steps) d (shown (i′ .has) (i′ .price)) (shown (j′ .has) (j′ .price))
       (tolls′ .toll) (here-i d (omega arith) (mi .past)) here-j (toll-here d (omega arith) tn) (rule d arrives))
 
   -- or it holds up to the next step and the next band
@@ -102,9 +102,9 @@ module _ (s : List ℕ) (leg : Leg) (from to : ℕ) (q : Query) (i j : Cursor) (
         reached-later s q (placeAt s to) (d + leg .time .0) (next + leg .time .0) j′ (omega arith) (mj .reached q (placeAt s to) (w .j-at));
     bands = banded-later leg d next tolls′ (omega arith) tb;
     before =
-        rule-further q leg (placeAt s from) (placeAt s to) (w .asked .to-steps) d (q .latest) next (w .before)
+        rule-further q leg (placeAt s from) (placeAt s to) (w .asked .to-place .steps) d (q .latest) next (w .before)
         (λ u l k.
-        covers-rule q leg (placeAt s from) (placeAt s to) (w .asked .to-steps) d (shown (i′ .has) (i′ .price))
+        covers-rule q leg (placeAt s from) (placeAt s to) (w .asked .to-place .steps) d (shown (i′ .has) (i′ .price))
         (shown (j′ .has) (j′ .price)) (tolls′ .toll) here-j cover u l (here-i u l (omega arith)) (toll-here u l (omega arith)));
     upto = omega (arith, held-next s i′ (mi .held));
   }

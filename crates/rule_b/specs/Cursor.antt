@@ -82,11 +82,14 @@ Covers (some x) v toll = AtMost v (x + toll)
 abbrev pub Or : Type 0 → Type 0 → Type 0
 Or P Q = P ⊎ Q
 
--- a leg between two places whose steps are as described
+-- a place whose steps are as described and lie in the file
+pub record PlaceAsked (s : List ℕ) (place : ℕ) (q : Query) : Type 0 where
+  pub inside : place + 12 + 44 * countAt s place ≤ 8 * length s
+  pub steps : Steps q (placeAt s place)
+
+-- a leg between two such places
 pub record LegAsked (s : List ℕ) (leg : Leg) (from to : ℕ) (q : Query) : Type 0 where
   pub order : InOrder leg
-  pub from-inside : from + 12 + 44 * countAt s from ≤ 8 * length s
-  pub to-inside : to + 12 + 44 * countAt s to ≤ 8 * length s
-  pub from-steps : Steps q (placeAt s from)
-  pub to-steps : Steps q (placeAt s to)
+  pub from-place : PlaceAsked s from q
+  pub to-place : PlaceAsked s to q
   pub end : q .latest ≤ 2879

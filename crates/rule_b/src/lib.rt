@@ -2,11 +2,11 @@
 ghost use mathlib.Core.Path.{_≡_};
 ghost use Prim.Native.Nat.{_+_, _*_, _≤_, _<_};
 ghost use lib.ListN.{length};
-ghost use Rattle.plan.specs.Sheet.{Steps};
+ghost use Rattle.plan.specs.Sheet.{Steps, value};
 ghost use Rattle.sheet_file.specs.Window.{window};
 ghost use Rattle.sheet_file.specs.InPlace.{stepsAt, placeAt, countAt};
 ghost use Rattle.rule_b.specs.Rule.{Is, RuleB, InOrder};
-ghost use Rattle.rule_b.specs.Cursor.{firstOf, shown, startOr, Held, Begun, Moved, Banded, Covers, Or, LegAsked};
+ghost use Rattle.rule_b.specs.Cursor.{firstOf, shown, startOr, Held, Begun, Moved, Banded, Covers, Or, PlaceAsked, LegAsked};
 use leg::Leg;
 
 // A place in a list of steps: the bit of the next step, how many are left, its minute; and the cost of the last step passed, if there is one.
@@ -76,6 +76,24 @@ fn forward(sheet: &[u8], cursor: Cursor, minute: u32) -> Cursor
         next,
         has,
         price,
+    }
+}
+
+// The value of a place at a minute, and whether it has one.
+pub struct Value {
+    pub has: bool,
+    pub price: u32,
+}
+
+// The value at a minute of the place whose count of steps stands at a bit.
+pub fn value_at(sheet: &[u8], place: u32, minute: u32, earliest: u32, latest: u32) -> Value
+    requires { ⌜ PlaceAsked (now sheet) place (window earliest latest) × (minute < 4096) ⌝ }
+    ensures { λ r. ⌜ value (placeAt (now (sheet .entry)) place) minute ≡ shown (r .has) (r .price) ⌝ }
+{
+    let cursor = forward(sheet, begin(sheet, place), minute);
+    Value {
+        has: cursor.has,
+        price: cursor.price,
     }
 }
 

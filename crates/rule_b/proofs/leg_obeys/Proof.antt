@@ -25,11 +25,11 @@ abbrev μ-loop : tie.MeasureT-loop
 
 begin-requires : tie.Need-begin-requires Inv-loop μ-loop
 begin-requires c κs =
-    c .before .pre .from-inside
+    c .before .pre .from-place .inside
 
 begin-requires-2 : tie.Need-begin-requires-2 Inv-loop μ-loop
 begin-requires-2 c κs =
-    c .before .before .pre .to-inside
+    c .before .before .pre .to-place .inside
 
 start-of-requires : tie.Need-start-of-requires Inv-loop μ-loop
 start-of-requires c κs =
