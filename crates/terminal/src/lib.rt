@@ -2,7 +2,9 @@
 ghost use mathlib.Core.Path.{_≡_};
 ghost use Rattle.read_call.specs.Read.{Reads};
 ghost use Rattle.write_call.specs.Write.{Writes};
-ghost use Rattle.terminal.specs.Reply.{Replies};
+ghost use Rattle.plan_call.specs.Call.{asking, Plans};
+ghost use Rattle.gate.specs.Gate.{GateSays};
+ghost use Rattle.terminal.specs.Reply.{Replies, PlanReplies, Says};
 
 // What comes back: the paper's number, and the length of what was written.
 #[repr(C)]
@@ -33,4 +35,33 @@ pub extern "C" fn haul_write(list: &[u32], out: &mut [u8]) -> Reply
         number: answer.number(),
         length: answer.length(),
     }
+}
+
+// The named plan of a query, as a plan file, with the minute table.
+#[no_mangle]
+pub extern "C" fn haul_plan(
+    net: &[u8],
+    start: u32,
+    end: u32,
+    earliest: u32,
+    latest: u32,
+    table: &mut [u32],
+    out: &mut [u8],
+) -> Reply
+    ensures { λ r. ⌜ PlanReplies (Plans (now (net .entry)) (asking start end earliest latest) (now (table .entry)) (now (table .exit)) (now (out .entry)) (now (out .exit))) r ⌝ }
+{
+    let answer = plan_call::plan(net, start, end, earliest, latest, table, out);
+    Reply {
+        number: answer.number(),
+        length: answer.length(),
+    }
+}
+
+// A plan and a bound sheet judged against a network, whoever wrote them.
+#[no_mangle]
+pub extern "C" fn haul_gate(net: &[u8], plan: &[u8], sheet: &[u8]) -> u32
+    ensures { λ r. ⌜ Says (GateSays (now (net .entry)) (now (plan .entry)) (now (sheet .entry))) r ⌝ }
+{
+    let answer = gate::gate(net, plan, sheet);
+    answer.number()
 }
