@@ -3,6 +3,7 @@ use Prim.Native.Nat.{ℕ, _≤_, _<_}
 use native.Mathlib.Omega.{arith}
 use mathlib.Core.Path.{_≡_, refl, sym, subst}
 use mathlib.Core.Bool.{true, false}
+use mathlib.Core.Logic.{inl, inr}
 use mathlib.Core.Option.{Option}
 use mathlib.Core.List.{List, []}
 use lib.ListN.{getD}
@@ -15,7 +16,6 @@ use Rattle.network.specs.Answers.{networkFound}
 use Rattle.plan.specs.Network.{Cents, Network, Query}
 use Rattle.plan.specs.Sheet.{Step, valueAt, Steps, Obeys, TightFor}
 use Rattle.plan_file.specs.PlanFile.{PlanFile}
-use Rattle.plan_file.proofs.Files.{one-plan}
 use Rattle.plan_reader.specs.InPlace.{fileAt, Says}
 use Rattle.sheet_file.specs.declared.SheetFound.{SheetFound}
 use Rattle.sheet_file.specs.SheetFile.{sheetOf}
@@ -73,47 +73,41 @@ sheet-none N q cost s n (found sheet end) r j e = let z : _≡_ {A = ℕ} 0 1 = 
 
 module _ (N : Network) (q : Query) (cost : Option Cents) (x : Found (List (List Step))) (sheet : List (List Step)) (end : ℕ) (is : x ≡ found sheet end) where
   pub sheet-broken : (Obeys N q (valueAt sheet) → ⊥) → OfSheet (Answer.Refused Refusal.Rules) N q cost x
-  sheet-broken h = subst (λ y. OfSheet (Answer.Refused Refusal.Rules) N q cost y) (sym is) (λ o. absurd (h o), λ n. refl)
+  sheet-broken h = subst (λ y. OfSheet (Answer.Refused Refusal.Rules) N q cost y) (sym is) (inr (h, refl))
 
   module _ (o : Obeys N q (valueAt sheet)) where
     pub sheet-loose : (TightFor q (valueAt sheet) cost → ⊥) → OfSheet (Answer.Refused Refusal.Loose) N q cost x
-    sheet-loose h =
-        subst (λ y. OfSheet (Answer.Refused Refusal.Loose) N q cost y) (sym is)
-        (λ _. (λ t. absurd (h t), λ n. refl), λ n. absurd (n o))
+    sheet-loose h = subst (λ y. OfSheet (Answer.Refused Refusal.Loose) N q cost y) (sym is) (inl (o, inr (h, refl)))
 
     pub sheet-done : TightFor q (valueAt sheet) cost → OfSheet (Answer.Done 0) N q cost x
-    sheet-done t =
-        subst (λ y. OfSheet (Answer.Done 0) N q cost y) (sym is) (λ _. (λ _. refl, λ n. absurd (n t)), λ n. absurd (n o))
+    sheet-done t = subst (λ y. OfSheet (Answer.Done 0) N q cost y) (sym is) (inl (o, inl (t, refl)))
 
 -- the query and the plan
 module _ (net : NetworkFile) (f : PlanFile) (sheet : List ℕ) where
   pub plan-unknown : (Known (net .places) (f .query) → ⊥) → OfPlan (Answer.Refused Refusal.Query) net f sheet
-  plan-unknown h = (λ k. absurd (h k), λ n. refl)
+  plan-unknown h = inr (h, refl)
 
   module _ (k : Known (net .places) (f .query)) where
     pub plan-closed : (f .query .earliest ≤ f .query .latest → ⊥) → OfPlan (Answer.Refused Refusal.Window) net f sheet
-    plan-closed h = (λ _. (λ w. absurd (h w), λ n. refl), λ n. absurd (n k))
+    plan-closed h = inl (k, inr (h, refl))
 
     module _ (w : f .query .earliest ≤ f .query .latest) where
       pub plan-fails : (Holds (theory net) f → ⊥) → OfPlan (Answer.Refused Refusal.Plan) net f sheet
-      plan-fails h = (λ _. (λ _. (λ p. absurd (h p), λ n. refl), λ n. absurd (n w)), λ n. absurd (n k))
+      plan-fails h = inl (k, inl (w, inr (h, refl)))
 
       pub plan-on : Holds (theory net) f → (r : Answer)
           → OfSheet r (theory net) (f .query) (stated f) (sheetOf (net .places) (f .query) sheet)
           → OfPlan r net f sheet
-      plan-on p r s = (λ _. (λ _. (λ _. s, λ n. absurd (n p)), λ n. absurd (n w)), λ n. absurd (n k))
+      plan-on p r s = inl (k, inl (w, inl (p, s)))
 
 -- the files
 pub files-none : (net : NetworkFile) (plan sheet : List ℕ) → ((f : PlanFile) → Says plan f → ⊥)
     → OfFiles (Answer.Refused Refusal.PlanFile) net plan sheet
-files-none net plan sheet h = record { says = λ f s. absurd (h f s); nothing = λ _. refl }
+files-none net plan sheet h = inr (h, refl)
 
 pub files-say : (net : NetworkFile) (plan sheet : List ℕ) (r : Answer) → Says plan (fileAt plan) → OfPlan r net (fileAt plan) sheet
     → OfFiles r net plan sheet
-files-say net plan sheet r s o = record {
-  says = λ f h. subst (λ (g : PlanFile). OfPlan r net g sheet) (one-plan (fileAt plan) f plan (s .file) (h .file)) o;
-  nothing = λ n. absurd (n (fileAt plan) s);
-}
+files-say net plan sheet r s o = inl (fileAt plan, s, o)
 
 pub network-none : (x : Found NetworkFile) (why : Refusal) (plan sheet : List ℕ) → networkFound x ≡ NetworkFound.Refused why
     → OfNetwork (Answer.Refused why) x plan sheet

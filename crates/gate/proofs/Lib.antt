@@ -2,3 +2,4 @@ pub mod Net
 pub mod Rides
 pub mod Sheets
 pub mod Answers
+pub mod Theorems

@@ -1,6 +1,7 @@
 -- What the gate answers, in document 01's order: the network's faults, 11, 6, 7, 12, 13, 14, 15, and 0 where none of these applies.
 use Prim.Native.Nat.{ℕ, _≤_, _<_}
 use mathlib.Core.Path.{_≡_}
+use mathlib.Core.Logic.{_⊎_}
 use mathlib.Core.Bool.{cond}
 use mathlib.Core.Option.{Option, none, some}
 use mathlib.Core.List.{List}
@@ -13,7 +14,7 @@ use Rattle.plan.specs.Network.{Cents, Network, Query}
 use Rattle.plan.specs.Plan.{cost, Feasible}
 use Rattle.plan.specs.Sheet.{Step, valueAt, Obeys, TightFor}
 use Rattle.plan.specs.Legs.{networkOf}
-use Rattle.plan_file.specs.PlanFile.{PlanFile, FileOf, Allowed, mostLegs}
+use Rattle.plan_file.specs.PlanFile.{PlanFile}
 use Rattle.plan_reader.specs.InPlace.{Says}
 use Rattle.sheet_file.specs.SheetFile.{sheetOf}
 
@@ -43,9 +44,9 @@ statedCost verdict price = cond (eqb verdict 0) none (some price)
 abbrev pub stated : PlanFile → Option Cents
 stated f = statedCost (f .verdict) (f .price)
 
--- where P does not hold the answer is this refusal; where it does, the rest decides
+-- either P holds, and the rest decides; or it does not, and the answer is this refusal
 abbrev pub Unless : Answer → Refusal → Type 0 → Type 0 → Type 0
-Unless r why P rest = (P → rest) × ((P → ⊥) → r ≡ Answer.Refused why)
+Unless r why P rest = (P × rest) ⊎ ((P → ⊥) × (r ≡ Answer.Refused why))
 
 -- the sheet
 abbrev pub OfSheet : Answer → Network → Query → Option Cents → Found (List (List Step)) → Type 0
@@ -63,10 +64,11 @@ OfPlan r net f sheet =
     (Unless r Refusal.Plan (Holds (theory net) f)
     (OfSheet r (theory net) (f .query) (stated f) (sheetOf (net .places) (f .query) sheet))))
 
--- the plan file: what it says, and 11 where the bytes say nothing
-pub record OfFiles (r : Answer) (net : NetworkFile) (plan sheet : List ℕ) : Type 0 where
-  pub says : (f : PlanFile) → Says plan f → OfPlan r net f sheet
-  pub nothing : ((f : PlanFile) → Says plan f → ⊥) → r ≡ Answer.Refused Refusal.PlanFile
+-- the plan file: what it says, or 11 where the bytes say nothing
+abbrev pub OfFiles : Answer → NetworkFile → List ℕ → List ℕ → Type 0
+OfFiles r net plan sheet =
+    ((f : PlanFile) × Says plan f × OfPlan r net f sheet)
+    ⊎ (((f : PlanFile) → Says plan f → ⊥) × (r ≡ Answer.Refused Refusal.PlanFile))
 
 -- the network first
 abbrev pub OfNetwork : Answer → Found NetworkFile → List ℕ → List ℕ → Type 0

@@ -256,3 +256,22 @@ sheet-steps n q s sheet end e =
     let c = check-step sheet end (fileOf s .ends (l .1)) Tail (l .1) _ (l .3) in
     let same : l .0 ≡ sheet = cc (c .1) in
     subst (λ (x : List (List Step)). (p : ℕ) → p < n → Steps q (getD x p [])) same (places-steps s q n (t .1) (l .0) (l .1) (l .2))
+
+places-size : (s : List ℕ) (q : Query) (n at : ℕ) (sheet : List (List Step)) (end : ℕ) → places n q (fileOf s) at ≡ found sheet end
+    → length sheet ≡ n
+unfolding places
+places-size s q zero at sheet end e = let none : [] ≡ sheet = cc in omega (arith, ap length none)
+places-size s q (suc n) at sheet end e =
+    let one = inner-step sheet end (onePlace q (fileOf s) at) _ e in
+    let more = inner-step sheet end (places n q (fileOf s) (one .1)) _ (one .3) in
+    let all : one .0 ∷ more .0 ≡ sheet = cc (more .3) in
+    omega (arith, ap length all, places-size s q n (one .1) (more .0) (more .1) (more .2))
+
+-- and it has as many places as the network
+pub sheet-size : (n : ℕ) (q : Query) (s : List ℕ) (sheet : List (List Step)) (end : ℕ) → sheetOf n q s ≡ found sheet end → length sheet ≡ n
+sheet-size n q s sheet end e =
+    let t = inner-step sheet end (top n (fileOf s) 0) (λ _ at. body n q (fileOf s) at) e in
+    let l = inner-step sheet end (places n q (fileOf s) (t .1)) _ (t .3) in
+    let c = check-step sheet end (fileOf s .ends (l .1)) Tail (l .1) _ (l .3) in
+    let same : l .0 ≡ sheet = cc (c .1) in
+    omega (arith, ap length same, places-size s q n (t .1) (l .0) (l .1) (l .2))

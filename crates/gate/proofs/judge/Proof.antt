@@ -3,8 +3,8 @@ use Rattle.gate.proofs.Net.{net-read}
 use Rattle.gate.proofs.Answers.{network-none, network-on}
 use mathlib.Core.Path.{sym, _∙_}
 use borrow.Author.Needs.{needs}
-use Rattle.gate.proofs.gate.Statement.{statement}
-use Rattle.gate.proofs.gate.Tie as tie
+use Rattle.gate.proofs.judge.Statement.{statement}
+use Rattle.gate.proofs.judge.Tie as tie
 
 slice-aggregate-network-from : tie.Need-slice-aggregate-network-from
 slice-aggregate-network-from c = search needs
@@ -33,8 +33,8 @@ returns-2 c =
     let n = net-read (a .net .now) _ (sym (c .before .before .before .before .network-from .ensures) ∙ c .before .before .found2 .given .1) in
     network-on (a .net .now) (n .end) (c .judge-files .result) (a .plan .now) (a .sheet .now) (n .is) (c .judge-files .ensures)
 
-pub gate-spec : {M : Type 1} → statement M
-gate-spec =
+pub judge-spec : {M : Type 1} → statement M
+judge-spec =
     tie.close
     (tie.spec
     slice-aggregate-network-from
