@@ -437,6 +437,21 @@ fn source_cases() -> Vec<Case> {
     ]
 }
 
+/// The ten trial rows, with whole tables, and the gate's answer to their plans and sheets.
+fn trial_cases() -> Vec<Case> {
+    let net = trial::network();
+    let file = network::file_of(&net);
+    let plans = trial::rows().into_iter().map(|row| {
+        let made = Made::of(&net, row.query);
+        plan(&file, row.query, net.places * row.query.window(), made.plan.len() + 1)
+    });
+    let gates = trial::rows().into_iter().map(|row| {
+        let made = Made::of(&net, row.query);
+        gate(&file, &made.plan, &made.sheet)
+    });
+    plans.chain(gates).collect()
+}
+
 /// The largest network: its file of 16,132 bytes and its list of 10,243 numbers. A reader needs room for one more.
 fn largest() -> (Vec<u8>, Vec<u32>) {
     let net = make::largest(&mut Dice::new(16_132));
@@ -447,6 +462,7 @@ fn largest() -> (Vec<u8>, Vec<u32>) {
 fn files() -> Vec<(&'static str, Vec<Case>)> {
     let mut out: Vec<(&str, Vec<Case>)> = ALL.map(|call| (call.name(), cases(call))).to_vec();
     out.push(("source", source_cases()));
+    out.push(("trial", trial_cases()));
     let (file, list) = largest();
     out.push(("read_largest", vec![read(&file, list.len() + 1)]));
     out.push(("write_largest", vec![write(&list, file.len() + 1)]));

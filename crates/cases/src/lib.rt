@@ -128,7 +128,7 @@ fn read_right(s: &[u8], at: usize, list: &mut [u32]) -> bool {
     same_numbers(s, after_number(s, length_at), list)
 }
 
-pub fn read_case(s: &[u8], at: usize, list: &mut [u32]) -> Case {
+fn read_case(s: &[u8], at: usize, list: &mut [u32]) -> Case {
     let list_at = after_number(s, after_number(s, after_bytes(s, at)));
     let next = after_numbers(s, list_at);
     let room = number(s, list_at) as usize;
@@ -155,7 +155,7 @@ fn write_right(s: &[u8], at: usize, list: &mut [u32], out: &mut [u8]) -> bool {
     check::same(out, bytes_at(s, after_number(s, length_at)))
 }
 
-pub fn write_case(s: &[u8], at: usize, list: &mut [u32], out: &mut [u8]) -> Case {
+fn write_case(s: &[u8], at: usize, list: &mut [u32], out: &mut [u8]) -> Case {
     let out_at = after_number(s, after_number(s, after_numbers(s, at)));
     let next = after_bytes(s, out_at);
     let count = number(s, at) as usize;
@@ -168,6 +168,86 @@ pub fn write_case(s: &[u8], at: usize, list: &mut [u32], out: &mut [u8]) -> Case
     }
     let right = write_right(s, at, &mut list[..count], &mut out[..room]);
     Case { next, right }
+}
+
+// A case of the plan call: the file; start, end, earliest, latest; number, length; the table and the output afterwards.
+fn plan_right(s: &[u8], at: usize, table: &mut [u32], out: &mut [u8]) -> bool {
+    fill_numbers(table);
+    fill_bytes(out);
+    let start_at = after_bytes(s, at);
+    let end_at = after_number(s, start_at);
+    let earliest_at = after_number(s, end_at);
+    let latest_at = after_number(s, earliest_at);
+    let reply_at = after_number(s, latest_at);
+    let reply = terminal::haul_plan(
+        bytes_at(s, at),
+        number(s, start_at),
+        number(s, end_at),
+        number(s, earliest_at),
+        number(s, latest_at),
+        table,
+        out,
+    );
+    answer_right(s, reply_at, reply.number, reply.length, table, out)
+}
+
+// The number, the length and both lent buffers are as stored.
+fn answer_right(
+    s: &[u8],
+    reply_at: usize,
+    answer: u32,
+    length: u32,
+    table: &[u32],
+    out: &[u8],
+) -> bool {
+    let length_at = after_number(s, reply_at);
+    let table_at = after_number(s, length_at);
+    if answer != number(s, reply_at) {
+        return false;
+    }
+    if length != number(s, length_at) {
+        return false;
+    }
+    if !same_numbers(s, table_at, table) {
+        return false;
+    }
+    check::same(out, bytes_at(s, after_numbers(s, table_at)))
+}
+
+// Where the reply of a plan or sheet case stands: after the file and the four numbers of the query.
+fn after_query(s: &[u8], at: usize) -> usize {
+    after_number(
+        s,
+        after_number(s, after_number(s, after_number(s, after_bytes(s, at)))),
+    )
+}
+
+fn plan_case(s: &[u8], at: usize, list: &mut [u32], out: &mut [u8]) -> Case {
+    let table_at = after_number(s, after_number(s, after_query(s, at)));
+    let out_at = after_numbers(s, table_at);
+    let next = after_bytes(s, out_at);
+    let cells = number(s, table_at) as usize;
+    let room = number(s, out_at) as usize;
+    if list.len() < cells {
+        return Case { next, right: false };
+    }
+    if out.len() < room {
+        return Case { next, right: false };
+    }
+    let right = plan_right(s, at, &mut list[..cells], &mut out[..room]);
+    Case { next, right }
+}
+
+// A case of the gate: the three files; the number.
+fn gate_case(s: &[u8], at: usize) -> Case {
+    let plan_at = after_bytes(s, at);
+    let sheet_at = after_bytes(s, plan_at);
+    let answer_at = after_bytes(s, sheet_at);
+    let answer = terminal::haul_gate(bytes_at(s, at), bytes_at(s, plan_at), bytes_at(s, sheet_at));
+    Case {
+        next: after_number(s, answer_at),
+        right: answer == number(s, answer_at),
+    }
 }
 
 // One case: the call's number, then its parts.
@@ -184,6 +264,12 @@ fn one_case(s: &[u8], at: usize, list: &mut [u32], out: &mut [u8]) -> Case {
     }
     if s[call] == 2 {
         return write_case(s, call + 1, list, out);
+    }
+    if s[call] == 3 {
+        return plan_case(s, call + 1, list, out);
+    }
+    if s[call] == 5 {
+        return gate_case(s, call + 1);
     }
     Case {
         next: 0,

@@ -25,6 +25,9 @@ fn main() {
     let mut out = [0u8; 16384];
     run_file(b"read.cases", &mut list, &mut out);
     run_file(b"write.cases", &mut list, &mut out);
+    run_file(b"plan.cases", &mut list, &mut out);
+    run_file(b"gate.cases", &mut list, &mut out);
+    run_file(b"trial.cases", &mut list, &mut out);
     run_file(b"read_largest.cases", &mut list, &mut out);
     run_file(b"write_largest.cases", &mut list, &mut out);
 }

@@ -1,3 +1,4 @@
+-- `cases::copy_numbers`: lengths are kept, and places stay within bounds.
 use borrow.Author.Needs.{needs}
 use Prim.Native.Nat.{_-_, _≤_}
 use native.Mathlib.Omega.{arith}

@@ -1,3 +1,4 @@
+-- `cases::read_case`: lengths are kept, and places stay within bounds.
 use native.Mathlib.Omega.{arith}
 use lib.ListN.{length-take}
 use borrow.Author.Needs.{needs}
