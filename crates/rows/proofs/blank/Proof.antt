@@ -1,3 +1,4 @@
+-- `rows::blank`: the front holds the value, the rest what it held.
 use mathlib.Core.List.{_++_}
 use mathlib.Core.List.{append-nil}
 use lib.Seq.{drop-length}

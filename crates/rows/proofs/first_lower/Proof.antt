@@ -1,3 +1,4 @@
+-- `rows::first_lower`: no ride from a column passed arrives below what stands there.
 use Rattle.rows.proofs.Steps.{search-more}
 use Rattle.rows.specs.Row.{at}
 use borrow.Author.Needs.{needs}

@@ -1,3 +1,4 @@
+-- `rows::just_before`: the column before, or the first.
 use mathlib.Core.Path.{_≡_}
 use borrow.Author.Needs.{needs}
 use Rattle.rows.proofs.just_before.Statement.{statement}

@@ -1,3 +1,4 @@
+-- `rows::lower`: the rides from the columns passed are done.
 use Rattle.rows.specs.Row.{Lower}
 use Rattle.rows.proofs.Steps.{lower-none, lower-kept, lower-stored}
 use borrow.Author.Needs.{needs}

@@ -1,3 +1,4 @@
+-- `rows::lower_row`: nothing to lower and the table stays; or the lowered row is put back.
 use Rattle.rows.proofs.Wholes.{lowered-row, unlowered-row, row-length}
 use Prim.Native.Nat.{_+_, _-_, _*_, _≤_}
 use native.Mathlib.Omega.{arith}

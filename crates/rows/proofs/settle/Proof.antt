@@ -1,3 +1,4 @@
+-- `rows::settle`: the columns passed are settled and copied, and `best` is the last of them.
 use Rattle.rows.specs.Row.{at, Settle}
 use Rattle.rows.proofs.Steps.{settle-none, settle-more, settle-best}
 use borrow.Author.Needs.{needs}

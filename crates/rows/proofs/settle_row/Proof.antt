@@ -1,3 +1,4 @@
+-- `rows::settle_row`: the row has come back, and the table is put together again.
 use Rattle.rows.proofs.Wholes.{settled-row, row-length}
 use Prim.Native.Nat.{_+_, _-_, _*_, _≤_}
 use native.Mathlib.Omega.{arith}

@@ -1,3 +1,4 @@
+-- `table::band_start`: the definition, case by case.
 use Rattle.table.proofs.Rides.{band-starts, band-ends}
 use mathlib.Core.Path.{sym}
 use borrow.Author.Needs.{needs}

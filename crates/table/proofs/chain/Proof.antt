@@ -1,3 +1,4 @@
+-- `table::chain`: the legs below l are chained.
 use Rattle.table.specs.Ask.{netIn, planned}
 use Rattle.table.specs.Chains.{Chained}
 use Rattle.table.proofs.InFile.{few-legs, leg-near}
@@ -27,13 +28,19 @@ loop-holds : tie.Need-loop-holds Inv-loop μ-loop
 loop-holds c = (omega arith, ap length (c .before .before .before .pre .2), c .before .before .before .pre .3, chained-none _ _ _ (c .before .before .before .pre .2))
 
 mul-leg-at : tie.Need-mul-leg-at Inv-loop μ-loop
-mul-leg-at c = omega (arith, few-legs (c .before .before .before .before .before .args .net .now) (c .before .before .before .before .before .args .size) (c .before .before .before .before .before .pre .0))
+mul-leg-at c =
+    let start = c .before .before .before .before .before in
+    omega (arith, few-legs (start .args .net .now) (start .args .size) (start .pre .0))
 
 element-copy-out-leg-at : tie.Need-element-copy-out-leg-at Inv-loop μ-loop
-element-copy-out-leg-at c = omega (arith, few-legs (c .before .before .before .before .before .args .net .now) (c .before .before .before .before .before .args .size) (c .before .before .before .before .before .pre .0))
+element-copy-out-leg-at c =
+    let start = c .before .before .before .before .before in
+    omega (arith, few-legs (start .args .net .now) (start .args .size) (start .pre .0))
 
 leg-at-requires : tie.Need-leg-at-requires Inv-loop μ-loop
-leg-at-requires c κs = leg-near (c .before .before .before .before .before .before .args .net .now) (c .before .before .before .before .before .before .args .size) (c .before .before .before .before .before .before .pre .0) (c .before .before .before .before .before .before .args .chart .now) (c .before .before .before .before .before .before .pre .1) (c .before .before .loop .l) (c .before .loop-test .taken)
+leg-at-requires c κs =
+    let start = c .before .before .before .before .before .before in
+    leg-near (start .args .net .now) (start .args .size) (start .pre .0) (start .args .chart .now) (start .pre .1) (c .before .before .loop .l) (c .before .loop-test .taken)
 
 cast-from : tie.Need-cast-from Inv-loop μ-loop
 cast-from c = search needs
@@ -42,13 +49,19 @@ mul-before : tie.Need-mul-before Inv-loop μ-loop
 mul-before c = search needs
 
 slice-read-before : tie.Need-slice-read-before Inv-loop μ-loop
-slice-read-before c = omega (arith, from-few (c .before .before .before .before .before .before .before .before .before .args .net .now) (c .before .before .before .before .before .before .before .before .before .args .size) (c .before .before .before .before .before .before .before .before .before .pre .0) (c .before .before .before .before .before .before .before .before .before .args .chart .now) (c .before .before .before .before .before .before .before .before .before .pre .1) (c .before .before .before .before .before .loop .l) (c .before .before .before .before .loop-test .taken) (c .before .before .leg-at .result) (c .before .before .leg-at .ensures))
+slice-read-before c =
+    let start = c .before .before .before .before .before .before .before .before .before in
+    omega (arith, from-few (start .args .net .now) (start .args .size) (start .pre .0) (start .args .chart .now) (start .pre .1) (c .before .before .before .before .before .loop .l) (c .before .before .before .before .loop-test .taken) (c .before .before .leg-at .result) (c .before .before .leg-at .ensures))
 
 mul-before-2 : tie.Need-mul-before-2 Inv-loop μ-loop
-mul-before-2 c = omega (arith, few-legs (c .before .before .before .before .before .before .before .before .before .args .net .now) (c .before .before .before .before .before .before .before .before .before .args .size) (c .before .before .before .before .before .before .before .before .before .pre .0))
+mul-before-2 c =
+    let start = c .before .before .before .before .before .before .before .before .before in
+    omega (arith, few-legs (start .args .net .now) (start .args .size) (start .pre .0))
 
 slice-write-before : tie.Need-slice-write-before Inv-loop μ-loop
-slice-write-before c = omega (arith, few-legs (c .before .before .before .before .before .before .before .before .before .args .net .now) (c .before .before .before .before .before .before .before .before .before .args .size) (c .before .before .before .before .before .before .before .before .before .pre .0))
+slice-write-before c =
+    let start = c .before .before .before .before .before .before .before .before .before in
+    omega (arith, few-legs (start .args .net .now) (start .args .size) (start .pre .0))
 
 add-last : tie.Need-add-last Inv-loop μ-loop
 add-last c = search needs
@@ -57,7 +70,9 @@ mul-last : tie.Need-mul-last Inv-loop μ-loop
 mul-last c = search needs
 
 slice-write-last : tie.Need-slice-write-last Inv-loop μ-loop
-slice-write-last c = omega (arith, from-few (c .before .before .before .before .before .before .before .before .before .args .net .now) (c .before .before .before .before .before .before .before .before .before .args .size) (c .before .before .before .before .before .before .before .before .before .pre .0) (c .before .before .before .before .before .before .before .before .before .args .chart .now) (c .before .before .before .before .before .before .before .before .before .pre .1) (c .before .before .before .before .before .loop .l) (c .before .before .before .before .loop-test .taken) (c .before .before .leg-at .result) (c .before .before .leg-at .ensures))
+slice-write-last c =
+    let start = c .before .before .before .before .before .before .before .before .before in
+    omega (arith, from-few (start .args .net .now) (start .args .size) (start .pre .0) (start .args .chart .now) (start .pre .1) (c .before .before .before .before .before .loop .l) (c .before .before .before .before .loop-test .taken) (c .before .before .leg-at .result) (c .before .before .leg-at .ensures))
 
 add-l : tie.Need-add-l Inv-loop μ-loop
 add-l c = search needs
@@ -67,8 +82,9 @@ loop-less c = search needs
 
 loop-again : tie.Need-loop-again Inv-loop μ-loop
 loop-again c =
+    let start = c .before .before .before .before .before .before .before .before .before in
     let l = c .before .before .before .before .before .loop in
-    (omega arith, simp length-set (l .inv .1), simp length-set (l .inv .2), chain-more (c .before .before .before .before .before .before .before .before .before .args .net .now) (c .before .before .before .before .before .before .before .before .before .args .size) (c .before .before .before .before .before .before .before .before .before .pre .0) (c .before .before .before .before .before .before .before .before .before .args .chart .now) (c .before .before .before .before .before .before .before .before .before .pre .1) (c .before .before .before .before .before .loop .l) (c .before .before .before .before .loop-test .taken) (c .before .before .leg-at .result) (c .before .before .leg-at .ensures) (l .last) (l .before) (l .inv .1) (l .inv .2) (l .inv .3))
+    (omega arith, simp length-set (l .inv .1), simp length-set (l .inv .2), chain-more (start .args .net .now) (start .args .size) (start .pre .0) (start .args .chart .now) (start .pre .1) (c .before .before .before .before .before .loop .l) (c .before .before .before .before .loop-test .taken) (c .before .before .leg-at .result) (c .before .before .leg-at .ensures) (l .last) (l .before) (l .inv .1) (l .inv .2) (l .inv .3))
 
 same-length : tie.Need-same-length Inv-loop μ-loop
 same-length c = search needs

@@ -1,3 +1,4 @@
+-- `table::fill`: chart, chains, outset and sweep together.
 use lib.ListN.{replicate}
 use Rattle.table.proofs.Filling.{may-ask, start-fits, start-low, fill-begins, fill-done, outset-long}
 use native.Mathlib.Omega.{arith}
@@ -8,8 +9,9 @@ use Rattle.table.proofs.fill.Tie as tie
 
 returns : tie.Need-returns
 returns c =
+    let start = c .before .before .before .before .before .before .before .before .before .before .before .before .before .before .before .before .before .before .before .before .before .before .before .before .before .before .before in
     let long = c .before .before .before .before .sweep .kept .1 .1 .1 .1 .1 .1 .1 .0 ∙ c .before .before .before .before .before .before .before .before .before .before .before .before .before .before .outset .kept .1 .1 .0 in
-    fill-done (c .before .before .before .before .before .before .before .before .before .before .before .before .before .before .before .before .before .before .before .before .before .before .before .before .before .before .before .args .net .now) (c .before .before .before .before .before .before .before .before .before .before .before .before .before .before .before .before .before .before .before .before .before .before .before .before .before .before .before .args .size) (c .before .before .before .before .before .before .before .before .before .before .before .before .before .before .before .before .before .before .before .before .before .before .before .before .before .before .before .args .start) (c .before .before .before .before .before .before .before .before .before .before .before .before .before .before .before .before .before .before .before .before .before .before .before .before .before .before .before .args .earliest) (c .before .before .before .before .before .before .before .before .before .before .before .before .before .before .before .before .before .before .before .before .before .before .before .before .before .before .before .args .latest) (c .before .before .before .before .before .before .before .before .before .before .before .before .before .before .before .before .before .before .before .before .before .before .before .before .before .before .before .args .cells .now) (c .before .before .before .before .before .before .before .before .before .before .before .before .before .before .before .before .before .before .before .before .before .before .before .before .before .before .before .pre) (c .before .before .before .before .sweep .last .1 .1 .1 .1 .1 .1 .1 .0) _ long (c .before .before .before .before .sweep .ensures)
+    fill-done (start .args .net .now) (start .args .size) (start .args .start) (start .args .earliest) (start .args .latest) (start .args .cells .now) (start .pre) (c .before .before .before .before .sweep .last .1 .1 .1 .1 .1 .1 .1 .0) _ long (c .before .before .before .before .sweep .ensures)
 
 chart-requires : tie.Need-chart-requires
 chart-requires c κs = search needs
@@ -30,7 +32,9 @@ slice-aggregate-outset : tie.Need-slice-aggregate-outset
 slice-aggregate-outset c = search needs
 
 outset-requires : tie.Need-outset-requires
-outset-requires c κs = (start-fits (c .before .before .before .before .before .before .before .before .before .before .before .before .args .net .now) (c .before .before .before .before .before .before .before .before .before .before .before .before .args .size) (c .before .before .before .before .before .before .before .before .before .before .before .before .args .start) (c .before .before .before .before .before .before .before .before .before .before .before .before .args .earliest) (c .before .before .before .before .before .before .before .before .before .before .before .before .args .latest) (c .before .before .before .before .before .before .before .before .before .before .before .before .args .cells .now) (c .before .before .before .before .before .before .before .before .before .before .before .before .pre) (c .before .before .width .result) (c .before .before .width .ensures), start-low (c .before .before .before .before .before .before .before .before .before .before .before .before .args .net .now) (c .before .before .before .before .before .before .before .before .before .before .before .before .args .size) (c .before .before .before .before .before .before .before .before .before .before .before .before .args .start) (c .before .before .before .before .before .before .before .before .before .before .before .before .args .earliest) (c .before .before .before .before .before .before .before .before .before .before .before .before .args .latest) (c .before .before .before .before .before .before .before .before .before .before .before .before .args .cells .now) (c .before .before .before .before .before .before .before .before .before .before .before .before .pre))
+outset-requires c κs =
+    let start = c .before .before .before .before .before .before .before .before .before .before .before .before in
+    (start-fits (start .args .net .now) (start .args .size) (start .args .start) (start .args .earliest) (start .args .latest) (start .args .cells .now) (start .pre) (c .before .before .width .result) (c .before .before .width .ensures), start-low (start .args .net .now) (start .args .size) (start .args .start) (start .args .earliest) (start .args .latest) (start .args .cells .now) (start .pre))
 
 slice-aggregate-sweep : tie.Need-slice-aggregate-sweep
 slice-aggregate-sweep c = search needs
@@ -40,12 +44,13 @@ slice-aggregate-sweep-2 c = search needs
 
 sweep-requires : tie.Need-sweep-requires
 sweep-requires c κs =
+    let start = c .before .before .before .before .before .before .before .before .before .before .before .before .before .before .before .before .before .before .before .before .before .before in
     let o = c .before .before .before .before .before .before .before .before .before .outset in
-    let f = c .before .before .before .before .before .before .before .before .before .before .before .before .before .before .before .before .before .before .before .before .before .before .pre in (
-      record { sound = f .sound; asked = may-ask (c .before .before .before .before .before .before .before .before .before .before .before .before .before .before .before .before .before .before .before .before .before .before .args .net .now) (c .before .before .before .before .before .before .before .before .before .before .before .before .before .before .before .before .before .before .before .before .before .before .args .size) (c .before .before .before .before .before .before .before .before .before .before .before .before .before .before .before .before .before .before .before .before .before .before .args .start) (c .before .before .before .before .before .before .before .before .before .before .before .before .before .before .before .before .before .before .before .before .before .before .args .earliest) (c .before .before .before .before .before .before .before .before .before .before .before .before .before .before .before .before .before .before .before .before .before .before .args .latest) (c .before .before .before .before .before .before .before .before .before .before .before .before .before .before .before .before .before .before .before .before .before .before .args .cells .now) (c .before .before .before .before .before .before .before .before .before .before .before .before .before .before .before .before .before .before .before .before .before .before .pre); charted = c .before .before .before .before .before .before .before .before .before .before .before .before .before .before .before .before .before .before .before .chart .ensures; chained = c .before .before .before .before .before .before .before .before .before .before .before .before .before .before .before .chain .ensures },
+    let f = start .pre in (
+      record { sound = f .sound; asked = may-ask (start .args .net .now) (start .args .size) (start .args .start) (start .args .earliest) (start .args .latest) (start .args .cells .now) (start .pre); charted = c .before .before .before .before .before .before .before .before .before .before .before .before .before .before .before .before .before .before .before .chart .ensures; chained = c .before .before .before .before .before .before .before .before .before .before .before .before .before .before .before .chain .ensures },
       omega (arith, f .window, f .clock),
-      outset-long (c .before .before .before .before .before .before .before .before .before .before .before .before .before .before .before .before .before .before .before .before .before .before .args .start) (c .before .before .before .before .before .before .before .before .before .before .before .before .width .result) (c .before .before .before .before .before .before .before .before .before .before .before .before .before .before .before .before .before .before .before .before .before .before .args .cells .now) (o .last .1 .1 .0) (replicate 64 0) (o .last .1 .1 .1 .0) (o .ensures) refl,
-      fill-begins (c .before .before .before .before .before .before .before .before .before .before .before .before .before .before .before .before .before .before .before .before .before .before .args .net .now) (c .before .before .before .before .before .before .before .before .before .before .before .before .before .before .before .before .before .before .before .before .before .before .args .size) (c .before .before .before .before .before .before .before .before .before .before .before .before .before .before .before .before .before .before .before .before .before .before .args .start) (c .before .before .before .before .before .before .before .before .before .before .before .before .before .before .before .before .before .before .before .before .before .before .args .earliest) (c .before .before .before .before .before .before .before .before .before .before .before .before .before .before .before .before .before .before .before .before .before .before .args .latest) (c .before .before .before .before .before .before .before .before .before .before .before .before .before .before .before .before .before .before .before .before .before .before .args .cells .now) (c .before .before .before .before .before .before .before .before .before .before .before .before .before .before .before .before .before .before .before .before .before .before .pre) (c .before .before .before .before .before .before .before .before .before .before .before .before .width .result) (o .last .1 .1 .0) (replicate 64 0) (o .last .1 .1 .1 .0) (c .before .before .before .before .before .before .before .before .before .before .before .before .width .ensures) refl (o .ensures),
+      outset-long (start .args .start) (c .before .before .before .before .before .before .before .before .before .before .before .before .width .result) (start .args .cells .now) (o .last .1 .1 .0) (replicate 64 0) (o .last .1 .1 .1 .0) (o .ensures) refl,
+      fill-begins (start .args .net .now) (start .args .size) (start .args .start) (start .args .earliest) (start .args .latest) (start .args .cells .now) (start .pre) (c .before .before .before .before .before .before .before .before .before .before .before .before .width .result) (o .last .1 .1 .0) (replicate 64 0) (o .last .1 .1 .1 .0) (c .before .before .before .before .before .before .before .before .before .before .before .before .width .ensures) refl (o .ensures),
     )
 
 same-length : tie.Need-same-length

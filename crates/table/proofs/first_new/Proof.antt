@@ -1,3 +1,4 @@
+-- `table::first_new`: no place passed has anything new.
 use Rattle.table.proofs.Sweeps.{new-more}
 use Rattle.rows.specs.Row.{at}
 use borrow.Author.Needs.{needs}

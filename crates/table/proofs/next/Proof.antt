@@ -1,3 +1,4 @@
+-- `table::next`: ahead, behind, or none.
 use Rattle.table.proofs.Visits.{next-behind, next-none}
 use native.Mathlib.Omega.{arith}
 use borrow.Author.Needs.{needs}

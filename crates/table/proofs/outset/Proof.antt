@@ -1,3 +1,4 @@
+-- `table::outset`: all cells without a plan, and then the row of the start.
 use mathlib.Core.List.{List}
 use Rattle.table.proofs.Filling.{outset-cells}
 use Prim.Native.Nat.{ℕ, _+_, _-_, _*_}

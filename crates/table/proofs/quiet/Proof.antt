@@ -1,3 +1,4 @@
+-- `table::quiet`: the front holds w, the rest what it held.
 use mathlib.Core.List.{_++_, append-nil}
 use lib.Seq.{drop-length}
 use lib.ListN.{replicate, drop}

@@ -1,3 +1,4 @@
+-- `table::ride`: the rides before the start of band k are done.
 use Rattle.table.specs.Ride.{Banded, bandStart, Rode}
 use Rattle.table.proofs.Rides.{band-starts, band-ends, rode-none, rode-more}
 use borrow.Author.Needs.{needs}

@@ -1,6 +1,7 @@
+-- `table::ride_band`: no column in this band, or the rides from its columns at its toll.
 use Rattle.table.specs.Ride.{bandStart}
 use Rattle.table.proofs.Rides.{rode-none, rode-band}
-use Prim.Native.Nat.{_+_, _*_}
+use Prim.Native.Nat.{_+_}
 use native.Mathlib.Omega.{arith}
 use mathlib.Core.Path.{_∙_}
 use borrow.Author.Needs.{needs}

@@ -1,3 +1,4 @@
+-- `table::ride_legs`: the legs of p from l on are done; l falls along the chain.
 use Rattle.table.proofs.InFile.{few-legs, few-places}
 use Rattle.table.proofs.Chaining.{Riding, riding-none, riding-now, riding-less, riding-more, riding-done}
 use borrow.Author.Needs.{needs}
@@ -13,44 +14,56 @@ abbrev μ-loop : tie.MeasureT-loop
 
 returns : tie.Need-returns Inv-loop μ-loop
 returns c =
+    let start = c .before .before .before .before .before .before .before in
     let l = c .before .loop in
-    riding-done (c .before .before .before .before .before .before .before .args .net .now) (c .before .before .before .before .before .before .before .args .size) (c .before .before .before .before .before .before .before .args .ask) (c .before .before .before .before .before .before .before .args .chart .now) (c .before .before .before .before .before .before .before .args .last .now) (c .before .before .before .before .before .before .before .args .before .now) (c .before .before .before .before .before .before .before .pre .0) (c .before .before .before .before .before .before .before .args .p) (c .before .before .before .before .before .before .before .pre .1) (c .before .before .before .before .before .before .before .args .row .now) (c .before .before .before .before .before .before .before .args .from) (c .before .before .before .before .before .before .before .args .cells .now) (l .cells) (c .before .before .before .before .before .before .before .args .low .now) (l .low) (l .l) (c .loop-test .left) (l .inv)
+    riding-done (start .args .net .now) (start .args .size) (start .args .ask) (start .args .chart .now) (start .args .last .now) (start .args .before .now) (start .pre .0) (start .args .p) (start .pre .1) (start .args .row .now) (start .args .from) (start .args .cells .now) (l .cells) (start .args .low .now) (l .low) (l .l) (c .loop-test .left) (l .inv)
 
 mul-l : tie.Need-mul-l Inv-loop μ-loop
 mul-l c = search needs
 
 element-copy-out-l : tie.Need-element-copy-out-l Inv-loop μ-loop
-element-copy-out-l c = omega (arith, c .before .before .before .before .pre .1, few-places (c .before .before .before .before .args .net .now) (c .before .before .before .before .args .size) (c .before .before .before .before .pre .0 .sound) .1)
+element-copy-out-l c =
+    let start = c .before .before .before .before in
+    omega (arith, start .pre .1, few-places (start .args .net .now) (start .args .size) (start .pre .0 .sound) .1)
 
 loop-holds : tie.Need-loop-holds Inv-loop μ-loop
-loop-holds c = riding-none (c .before .before .before .before .before .args .net .now) (c .before .before .before .before .before .args .size) (c .before .before .before .before .before .args .ask) (c .before .before .before .before .before .args .chart .now) (c .before .before .before .before .before .args .last .now) (c .before .before .before .before .before .args .before .now) (c .before .before .before .before .before .pre .0) (c .before .before .before .before .before .args .p) (c .before .before .before .before .before .pre .1) (c .before .before .before .before .before .args .row .now) (c .before .before .before .before .before .args .from) (c .before .before .before .before .before .args .cells .now) (c .before .before .before .before .before .args .low .now) (c .before .before .before .before .before .pre .3)
+loop-holds c =
+    let start = c .before .before .before .before .before in
+    riding-none (start .args .net .now) (start .args .size) (start .args .ask) (start .args .chart .now) (start .args .last .now) (start .args .before .now) (start .pre .0) (start .args .p) (start .pre .1) (start .args .row .now) (start .args .from) (start .args .cells .now) (start .args .low .now) (start .pre .3)
 
 sub-ride-leg : tie.Need-sub-ride-leg Inv-loop μ-loop
 sub-ride-leg c = search needs
 
 ride-leg-requires : tie.Need-ride-leg-requires Inv-loop μ-loop
 ride-leg-requires c κs =
+    let start = c .before .before .before .before .before .before .before .before .before in
     let l = c .before .before .before .loop in
-    riding-now (c .before .before .before .before .before .before .before .before .before .args .net .now) (c .before .before .before .before .before .before .before .before .before .args .size) (c .before .before .before .before .before .before .before .before .before .args .ask) (c .before .before .before .before .before .before .before .before .before .args .chart .now) (c .before .before .before .before .before .before .before .before .before .args .last .now) (c .before .before .before .before .before .before .before .before .before .args .before .now) (c .before .before .before .before .before .before .before .before .before .pre .0) (c .before .before .before .before .before .before .before .before .before .args .p) (c .before .before .before .before .before .before .before .before .before .pre .1) (c .before .before .before .before .before .before .before .before .before .args .row .now) (c .before .before .before .before .before .before .before .before .before .args .from) (c .before .before .before .before .before .before .before .before .before .args .cells .now) (l .cells) (c .before .before .before .before .before .before .before .before .before .args .low .now) (l .low) (l .l) (l .inv) (c .before .before .loop-test .taken) (c .before .before .before .before .before .before .before .before .before .pre .2)
+    riding-now (start .args .net .now) (start .args .size) (start .args .ask) (start .args .chart .now) (start .args .last .now) (start .args .before .now) (start .pre .0) (start .args .p) (start .pre .1) (start .args .row .now) (start .args .from) (start .args .cells .now) (l .cells) (start .args .low .now) (l .low) (l .l) (l .inv) (c .before .before .loop-test .taken) (start .pre .2)
 
 sub-l : tie.Need-sub-l Inv-loop μ-loop
 sub-l c = search needs
 
 mul-l-2 : tie.Need-mul-l-2 Inv-loop μ-loop
-mul-l-2 c = omega (arith, c .before .before .before .before .before .before .before .before .loop .inv .within, few-legs (c .before .before .before .before .before .before .before .before .before .before .before .before .before .before .args .net .now) (c .before .before .before .before .before .before .before .before .before .before .before .before .before .before .args .size) (c .before .before .before .before .before .before .before .before .before .before .before .before .before .before .pre .0 .sound))
+mul-l-2 c =
+    let start = c .before .before .before .before .before .before .before .before .before .before .before .before .before .before in
+    omega (arith, c .before .before .before .before .before .before .before .before .loop .inv .within, few-legs (start .args .net .now) (start .args .size) (start .pre .0 .sound))
 
 element-copy-out-l-2 : tie.Need-element-copy-out-l-2 Inv-loop μ-loop
-element-copy-out-l-2 c = omega (arith, c .before .before .before .before .before .before .before .before .loop .inv .within, c .before .before .before .before .before .before .before .loop-test .taken, few-legs (c .before .before .before .before .before .before .before .before .before .before .before .before .before .before .args .net .now) (c .before .before .before .before .before .before .before .before .before .before .before .before .before .before .args .size) (c .before .before .before .before .before .before .before .before .before .before .before .before .before .before .pre .0 .sound))
+element-copy-out-l-2 c =
+    let start = c .before .before .before .before .before .before .before .before .before .before .before .before .before .before in
+    omega (arith, c .before .before .before .before .before .before .before .before .loop .inv .within, c .before .before .before .before .before .before .before .loop-test .taken, few-legs (start .args .net .now) (start .args .size) (start .pre .0 .sound))
 
 loop-less : tie.Need-loop-less Inv-loop μ-loop
 loop-less c =
+    let start = c .before .before .before .before .before .before .before .before .before .before .before .before .before .before .before in
     let l = c .before .before .before .before .before .before .before .before .before .loop in
-    riding-less (c .before .before .before .before .before .before .before .before .before .before .before .before .before .before .before .args .net .now) (c .before .before .before .before .before .before .before .before .before .before .before .before .before .before .before .args .size) (c .before .before .before .before .before .before .before .before .before .before .before .before .before .before .before .args .ask) (c .before .before .before .before .before .before .before .before .before .before .before .before .before .before .before .args .chart .now) (c .before .before .before .before .before .before .before .before .before .before .before .before .before .before .before .args .last .now) (c .before .before .before .before .before .before .before .before .before .before .before .before .before .before .before .args .before .now) (c .before .before .before .before .before .before .before .before .before .before .before .before .before .before .before .pre .0) (c .before .before .before .before .before .before .before .before .before .before .before .before .before .before .before .args .p) (c .before .before .before .before .before .before .before .before .before .before .before .before .before .before .before .pre .1) (c .before .before .before .before .before .before .before .before .before .before .before .before .before .before .before .args .row .now) (c .before .before .before .before .before .before .before .before .before .before .before .before .before .before .before .args .from) (c .before .before .before .before .before .before .before .before .before .before .before .before .before .before .before .args .cells .now) (l .cells) (c .before .before .before .before .before .before .before .before .before .before .before .before .before .before .before .args .low .now) (l .low) (l .l) (l .inv) (c .before .before .before .before .before .before .before .before .loop-test .taken)
+    riding-less (start .args .net .now) (start .args .size) (start .args .ask) (start .args .chart .now) (start .args .last .now) (start .args .before .now) (start .pre .0) (start .args .p) (start .pre .1) (start .args .row .now) (start .args .from) (start .args .cells .now) (l .cells) (start .args .low .now) (l .low) (l .l) (l .inv) (c .before .before .before .before .before .before .before .before .loop-test .taken)
 
 loop-again : tie.Need-loop-again Inv-loop μ-loop
 loop-again c =
+    let start = c .before .before .before .before .before .before .before .before .before .before .before .before .before .before .before in
     let l = c .before .before .before .before .before .before .before .before .before .loop in
-    riding-more (c .before .before .before .before .before .before .before .before .before .before .before .before .before .before .before .args .net .now) (c .before .before .before .before .before .before .before .before .before .before .before .before .before .before .before .args .size) (c .before .before .before .before .before .before .before .before .before .before .before .before .before .before .before .args .ask) (c .before .before .before .before .before .before .before .before .before .before .before .before .before .before .before .args .chart .now) (c .before .before .before .before .before .before .before .before .before .before .before .before .before .before .before .args .last .now) (c .before .before .before .before .before .before .before .before .before .before .before .before .before .before .before .args .before .now) (c .before .before .before .before .before .before .before .before .before .before .before .before .before .before .before .pre .0) (c .before .before .before .before .before .before .before .before .before .before .before .before .before .before .before .args .p) (c .before .before .before .before .before .before .before .before .before .before .before .before .before .before .before .pre .1) (c .before .before .before .before .before .before .before .before .before .before .before .before .before .before .before .args .row .now) (c .before .before .before .before .before .before .before .before .before .before .before .before .before .before .before .args .from) (c .before .before .before .before .before .before .before .before .before .before .before .before .before .before .before .args .cells .now) (l .cells) (c .before .before .before .before .before .before .before .before .before .before .before .before .before .before .before .args .low .now) (l .low) (l .l) (l .inv) (c .before .before .before .before .before .before .before .before .loop-test .taken) _ _ (c .before .before .before .before .before .ride-leg .ensures)
+    riding-more (start .args .net .now) (start .args .size) (start .args .ask) (start .args .chart .now) (start .args .last .now) (start .args .before .now) (start .pre .0) (start .args .p) (start .pre .1) (start .args .row .now) (start .args .from) (start .args .cells .now) (l .cells) (start .args .low .now) (l .low) (l .l) (l .inv) (c .before .before .before .before .before .before .before .before .loop-test .taken) _ _ (c .before .before .before .before .before .ride-leg .ensures)
 
 same-length : tie.Need-same-length Inv-loop μ-loop
 same-length c = search needs

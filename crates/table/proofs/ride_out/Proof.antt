@@ -1,3 +1,8 @@
+-- `table::ride_out`: the smaller of what was noted and what is new.
+use Prim.Native.Nat.{min}
+use native.Mathlib.Omega.{arith}
+use mathlib.Core.Path.{_≡_}
+use Rattle.rows.specs.Row.{at}
 use mathlib.Core.Path.{ap}
 use lib.ListN.{set}
 use borrow.Author.Needs.{needs}
@@ -5,7 +10,10 @@ use Rattle.table.proofs.ride_out.Statement.{statement}
 use Rattle.table.proofs.ride_out.Tie as tie
 
 returns : tie.Need-returns
-returns c = record { first = c .before .before .before .before .ride .result; rode = c .before .before .before .before .ride .ensures; noted = ap (set (c .before .before .before .before .before .before .before .before .before .before .args .low .now) (c .before .before .before .before .before .before .before .before .before .before .args .leg .to)) (c .lesser .ensures) }
+returns c =
+    let a = c .before .before .before .before .before .before .before .before .before .before .args in
+    let least : c .lesser .result ≡ min (at (a .low .now) (a .leg .to)) (c .before .before .before .before .ride .result) = omega (arith, c .lesser .ensures) in
+    record { first = c .before .before .before .before .ride .result; rode = c .before .before .before .before .ride .ensures; noted = ap (set (a .low .now) (a .leg .to)) least }
 
 cast-to : tie.Need-cast-to
 cast-to c = search needs

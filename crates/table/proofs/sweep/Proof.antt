@@ -1,3 +1,4 @@
+-- `table::sweep`: what the sweep keeps; the sum of the cells falls, or else fewer columns are new.
 use Rattle.table.proofs.InFile.{few-places}
 use Rattle.table.proofs.Visits.{turn-falls, turn-long, swept}
 use Rattle.table.specs.Ask.{netIn, planned, query}
@@ -19,8 +20,9 @@ abbrev μ-loop : tie.MeasureT-loop
 
 returns : tie.Need-returns Inv-loop μ-loop
 returns c =
+    let start = c .before .before .before .before .before .before .before .before .before .before in
     let l = c .before .loop in
-    swept (c .before .before .before .before .before .before .before .before .before .before .args .net .now) (c .before .before .before .before .before .before .before .before .before .before .args .size) (c .before .before .before .before .before .before .before .before .before .before .args .ask) (c .before .before .before .before .before .before .before .before .before .before .args .chart .now) (c .before .before .before .before .before .before .before .before .before .before .args .last .now) (c .before .before .before .before .before .before .before .before .before .before .args .before .now) (c .before .before .before .before .before .before .before .before .before .before .pre .0) (c .before .before .before .before .width .result) (c .before .before .before .before .width .ensures) (l .cells) (l .low) (l .p) (l .inv .2) (l .inv .3) (c .loop-test .left)
+    swept (start .args .net .now) (start .args .size) (start .args .ask) (start .args .chart .now) (start .args .last .now) (start .args .before .now) (start .pre .0) (c .before .before .before .before .width .result) (c .before .before .before .before .width .ensures) (l .cells) (l .low) (l .p) (l .inv .2) (l .inv .3) (c .loop-test .left)
 
 cast-places : tie.Need-cast-places Inv-loop μ-loop
 cast-places c = search needs
@@ -29,7 +31,9 @@ width-requires : tie.Need-width-requires Inv-loop μ-loop
 width-requires c κs = search needs
 
 next-requires : tie.Need-next-requires Inv-loop μ-loop
-next-requires c κs = (omega arith, omega (arith, c .before .before .before .before .before .before .before .pre .2, few-places (c .before .before .before .before .before .before .before .args .net .now) (c .before .before .before .before .before .before .before .args .size) (c .before .before .before .before .before .before .before .pre .0 .sound) .1))
+next-requires c κs =
+    let start = c .before .before .before .before .before .before .before in
+    (omega arith, omega (arith, start .pre .2, few-places (start .args .net .now) (start .args .size) (start .pre .0 .sound) .1))
 
 loop-holds : tie.Need-loop-holds Inv-loop μ-loop
 loop-holds c = (refl, c .before .before .before .before .before .before .before .before .pre .2, c .before .before .before .before .before .before .before .before .pre .3, c .next .ensures)
@@ -41,21 +45,24 @@ visit-requires c κs =
 
 next-requires-2 : tie.Need-next-requires-2 Inv-loop μ-loop
 next-requires-2 c κs =
+    let start = c .before .before .before .before .before .before .before .before .before .before .before .before .before .before .before .before .before .before .before .before .before in
     let l = c .before .before .before .before .before .before .before .before .before .before .before .before .loop in
-    let long = turn-long (c .before .before .before .before .before .before .before .before .before .before .before .before .before .before .before .before .before .before .before .before .before .args .net .now) (c .before .before .before .before .before .before .before .before .before .before .before .before .before .before .before .before .before .before .before .before .before .args .size) (c .before .before .before .before .before .before .before .before .before .before .before .before .before .before .before .before .before .before .before .before .before .args .ask) (c .before .before .before .before .before .before .before .before .before .before .before .before .before .before .before .before .before .before .before .before .before .args .chart .now) (c .before .before .before .before .before .before .before .before .before .before .before .before .before .before .before .before .before .before .before .before .before .args .last .now) (c .before .before .before .before .before .before .before .before .before .before .before .before .before .before .before .before .before .before .before .before .before .args .before .now) (c .before .before .before .before .before .before .before .before .before .before .before .before .before .before .before .before .before .before .before .before .before .pre .0) (c .before .before .before .before .before .before .before .before .before .before .before .before .before .before .before .width .result) (c .before .before .before .before .before .before .before .before .before .before .before .before .before .before .before .width .ensures) (l .cells) (c .before .before .before .before .before .before .before .visit .last .1 .1 .1 .1 .1 .1 .1 .1 .0) (l .low) (c .before .before .before .before .before .before .before .visit .last .1 .1 .1 .1 .1 .1 .1 .1 .1 .0) (l .p) (l .inv .1) (c .before .before .before .before .before .before .before .visit .ensures) in
-    (l .inv .3 .within, omega (arith, long, few-places (c .before .before .before .before .before .before .before .before .before .before .before .before .before .before .before .before .before .before .before .before .before .args .net .now) (c .before .before .before .before .before .before .before .before .before .before .before .before .before .before .before .before .before .before .before .before .before .args .size) (c .before .before .before .before .before .before .before .before .before .before .before .before .before .before .before .before .before .before .before .before .before .pre .0 .sound) .1))
+    let long = turn-long (start .args .net .now) (start .args .size) (start .args .ask) (start .args .chart .now) (start .args .last .now) (start .args .before .now) (start .pre .0) (c .before .before .before .before .before .before .before .before .before .before .before .before .before .before .before .width .result) (c .before .before .before .before .before .before .before .before .before .before .before .before .before .before .before .width .ensures) (l .cells) (c .before .before .before .before .before .before .before .visit .last .1 .1 .1 .1 .1 .1 .1 .1 .0) (l .low) (c .before .before .before .before .before .before .before .visit .last .1 .1 .1 .1 .1 .1 .1 .1 .1 .0) (l .p) (l .inv .1) (c .before .before .before .before .before .before .before .visit .ensures) in
+    (l .inv .3 .within, omega (arith, long, few-places (start .args .net .now) (start .args .size) (start .pre .0 .sound) .1))
 
 loop-less : tie.Need-loop-less Inv-loop μ-loop
 loop-less c =
+    let start = c .before .before .before .before .before .before .before .before .before .before .before .before .before .before .before .before .before .before .before .before .before .before in
     let l = c .before .before .before .before .before .before .before .before .before .before .before .before .before .loop in
-    turn-falls (c .before .before .before .before .before .before .before .before .before .before .before .before .before .before .before .before .before .before .before .before .before .before .args .net .now) (c .before .before .before .before .before .before .before .before .before .before .before .before .before .before .before .before .before .before .before .before .before .before .args .size) (c .before .before .before .before .before .before .before .before .before .before .before .before .before .before .before .before .before .before .before .before .before .before .args .ask) (c .before .before .before .before .before .before .before .before .before .before .before .before .before .before .before .before .before .before .before .before .before .before .args .chart .now) (c .before .before .before .before .before .before .before .before .before .before .before .before .before .before .before .before .before .before .before .before .before .before .args .last .now) (c .before .before .before .before .before .before .before .before .before .before .before .before .before .before .before .before .before .before .before .before .before .before .args .before .now) (c .before .before .before .before .before .before .before .before .before .before .before .before .before .before .before .before .before .before .before .before .before .before .pre .0) (c .before .before .before .before .before .before .before .before .before .before .before .before .before .before .before .before .width .result) (c .before .before .before .before .before .before .before .before .before .before .before .before .before .before .before .before .width .ensures) (l .cells) (c .before .before .before .before .before .before .before .before .visit .last .1 .1 .1 .1 .1 .1 .1 .1 .0) (l .low) (c .before .before .before .before .before .before .before .before .visit .last .1 .1 .1 .1 .1 .1 .1 .1 .1 .0) (l .p) (c .before .before .before .before .before .before .before .before .before .before .before .before .loop-test .taken) (l .inv .1)
+    turn-falls (start .args .net .now) (start .args .size) (start .args .ask) (start .args .chart .now) (start .args .last .now) (start .args .before .now) (start .pre .0) (c .before .before .before .before .before .before .before .before .before .before .before .before .before .before .before .before .width .result) (c .before .before .before .before .before .before .before .before .before .before .before .before .before .before .before .before .width .ensures) (l .cells) (c .before .before .before .before .before .before .before .before .visit .last .1 .1 .1 .1 .1 .1 .1 .1 .0) (l .low) (c .before .before .before .before .before .before .before .before .visit .last .1 .1 .1 .1 .1 .1 .1 .1 .1 .0) (l .p) (c .before .before .before .before .before .before .before .before .before .before .before .before .loop-test .taken) (l .inv .1)
     (l .inv .3 .new (c .before .before .before .before .before .before .before .before .before .before .before .before .loop-test .taken)) (l .inv .2) (c .before .before .before .before .before .before .before .before .visit .ensures)
 
 loop-again : tie.Need-loop-again Inv-loop μ-loop
 loop-again c =
+    let start = c .before .before .before .before .before .before .before .before .before .before .before .before .before .before .before .before .before .before .before .before .before .before in
     let l = c .before .before .before .before .before .before .before .before .before .before .before .before .before .loop in (
       c .before .before .before .before .before .before .before .before .visit .kept .1 .1 .1 .1 .1 .1 .1 .0 ∙ l .inv .0,
-      turn-long (c .before .before .before .before .before .before .before .before .before .before .before .before .before .before .before .before .before .before .before .before .before .before .args .net .now) (c .before .before .before .before .before .before .before .before .before .before .before .before .before .before .before .before .before .before .before .before .before .before .args .size) (c .before .before .before .before .before .before .before .before .before .before .before .before .before .before .before .before .before .before .before .before .before .before .args .ask) (c .before .before .before .before .before .before .before .before .before .before .before .before .before .before .before .before .before .before .before .before .before .before .args .chart .now) (c .before .before .before .before .before .before .before .before .before .before .before .before .before .before .before .before .before .before .before .before .before .before .args .last .now) (c .before .before .before .before .before .before .before .before .before .before .before .before .before .before .before .before .before .before .before .before .before .before .args .before .now) (c .before .before .before .before .before .before .before .before .before .before .before .before .before .before .before .before .before .before .before .before .before .before .pre .0) (c .before .before .before .before .before .before .before .before .before .before .before .before .before .before .before .before .width .result) (c .before .before .before .before .before .before .before .before .before .before .before .before .before .before .before .before .width .ensures) (l .cells) (c .before .before .before .before .before .before .before .before .visit .last .1 .1 .1 .1 .1 .1 .1 .1 .0) (l .low) (c .before .before .before .before .before .before .before .before .visit .last .1 .1 .1 .1 .1 .1 .1 .1 .1 .0) (l .p) (l .inv .1) (c .before .before .before .before .before .before .before .before .visit .ensures),
+      turn-long (start .args .net .now) (start .args .size) (start .args .ask) (start .args .chart .now) (start .args .last .now) (start .args .before .now) (start .pre .0) (c .before .before .before .before .before .before .before .before .before .before .before .before .before .before .before .before .width .result) (c .before .before .before .before .before .before .before .before .before .before .before .before .before .before .before .before .width .ensures) (l .cells) (c .before .before .before .before .before .before .before .before .visit .last .1 .1 .1 .1 .1 .1 .1 .1 .0) (l .low) (c .before .before .before .before .before .before .before .before .visit .last .1 .1 .1 .1 .1 .1 .1 .1 .1 .0) (l .p) (l .inv .1) (c .before .before .before .before .before .before .before .before .visit .ensures),
       c .before .before .before .before .before .before .before .before .visit .ensures .kept,
       c .next2 .ensures,
     )

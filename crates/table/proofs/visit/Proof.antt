@@ -1,3 +1,4 @@
+-- `table::visit`: what p had to pass on is passed on.
 use Rattle.table.proofs.Visits.{in-low, visit-room, visit-begins, visit-done}
 use native.Mathlib.Omega.{arith}
 use mathlib.Core.Path.{_∙_}
@@ -7,7 +8,9 @@ use Rattle.table.proofs.visit.Statement.{statement}
 use Rattle.table.proofs.visit.Tie as tie
 
 returns : tie.Need-returns
-returns c = visit-done (c .before .before .before .before .before .before .before .before .before .before .before .before .before .before .before .before .before .before .before .before .before .args .net .now) (c .before .before .before .before .before .before .before .before .before .before .before .before .before .before .before .before .before .before .before .before .before .args .size) (c .before .before .before .before .before .before .before .before .before .before .before .before .before .before .before .before .before .before .before .before .before .args .ask) (c .before .before .before .before .before .before .before .before .before .before .before .before .before .before .before .before .before .before .before .before .before .args .chart .now) (c .before .before .before .before .before .before .before .before .before .before .before .before .before .before .before .before .before .before .before .before .before .args .last .now) (c .before .before .before .before .before .before .before .before .before .before .before .before .before .before .before .before .before .before .before .before .before .args .before .now) (c .before .before .before .before .before .before .before .before .before .before .before .before .before .before .before .before .before .before .before .before .before .pre .0) (c .before .before .before .before .before .before .before .before .before .before .before .before .before .before .before .before .before .before .before .before .before .args .p) (c .before .before .before .before .before .before .before .before .before .before .before .before .before .before .before .before .before .before .before .before .before .pre .1) (c .before .before .before .before .before .before .before .before .before .before .before .before .before .before .before .before .before .before .before .before .before .args .cells .now) (c .before .before .before .before .before .before .before .before .before .before .before .before .before .before .before .before .before .before .before .before .before .args .low .now) (c .before .before .before .before .before .before .before .before .before .before .before .before .before .before .before .before .before .before .before .before .before .pre .4) (c .before .before .before .before .before .before .before .before .before .before .before .before .before .before .before .before .width .result) (c .before .before .before .before .before .before .before .before .before .before .before .before .before .before .before .before .width .ensures) (c .before .before .before .before .before .before .before .before .before .before .before .before .settle-row .last .0) _ _ _ (c .before .before .before .before .before .before .before .before .before .before .before .before .settle-row .ensures) (c .before .before .before .before .ride-legs .ensures)
+returns c =
+    let start = c .before .before .before .before .before .before .before .before .before .before .before .before .before .before .before .before .before .before .before .before .before in
+    visit-done (start .args .net .now) (start .args .size) (start .args .ask) (start .args .chart .now) (start .args .last .now) (start .args .before .now) (start .pre .0) (start .args .p) (start .pre .1) (start .args .cells .now) (start .args .low .now) (start .pre .4) (c .before .before .before .before .before .before .before .before .before .before .before .before .before .before .before .before .width .result) (c .before .before .before .before .before .before .before .before .before .before .before .before .before .before .before .before .width .ensures) (c .before .before .before .before .before .before .before .before .before .before .before .before .settle-row .last .0) _ _ _ (c .before .before .before .before .before .before .before .before .before .before .before .before .settle-row .ensures) (c .before .before .before .before .ride-legs .ensures)
 
 width-requires : tie.Need-width-requires
 width-requires c κs = search needs
@@ -16,24 +19,31 @@ mul-from : tie.Need-mul-from
 mul-from c = search needs
 
 slice-read-from : tie.Need-slice-read-from
-slice-read-from c = in-low (c .before .before .before .before .before .before .args .net .now) (c .before .before .before .before .before .before .args .size) (c .before .before .before .before .before .before .args .ask) (c .before .before .before .before .before .before .args .chart .now) (c .before .before .before .before .before .before .args .last .now) (c .before .before .before .before .before .before .args .before .now) (c .before .before .before .before .before .before .pre .0) (c .before .before .before .before .before .before .args .p) (c .before .before .before .before .before .before .pre .1) (c .before .before .before .before .before .before .args .cells .now) (c .before .before .before .before .before .before .args .low .now) (c .before .before .before .before .before .before .pre .4) (c .before .width .result) (c .before .width .ensures)
+slice-read-from c =
+    let start = c .before .before .before .before .before .before in
+    in-low (start .args .net .now) (start .args .size) (start .args .ask) (start .args .chart .now) (start .args .last .now) (start .args .before .now) (start .pre .0) (start .args .p) (start .pre .1) (start .args .cells .now) (start .args .low .now) (start .pre .4) (c .before .width .result) (c .before .width .ensures)
 
 mul-low : tie.Need-mul-low
 mul-low c = search needs
 
 slice-write-low : tie.Need-slice-write-low
-slice-write-low c = in-low (c .before .before .before .before .before .before .args .net .now) (c .before .before .before .before .before .before .args .size) (c .before .before .before .before .before .before .args .ask) (c .before .before .before .before .before .before .args .chart .now) (c .before .before .before .before .before .before .args .last .now) (c .before .before .before .before .before .before .args .before .now) (c .before .before .before .before .before .before .pre .0) (c .before .before .before .before .before .before .args .p) (c .before .before .before .before .before .before .pre .1) (c .before .before .before .before .before .before .args .cells .now) (c .before .before .before .before .before .before .args .low .now) (c .before .before .before .before .before .before .pre .4) (c .before .width .result) (c .before .width .ensures)
+slice-write-low c =
+    let start = c .before .before .before .before .before .before in
+    in-low (start .args .net .now) (start .args .size) (start .args .ask) (start .args .chart .now) (start .args .last .now) (start .args .before .now) (start .pre .0) (start .args .p) (start .pre .1) (start .args .cells .now) (start .args .low .now) (start .pre .4) (c .before .width .result) (c .before .width .ensures)
 
 settle-row-requires : tie.Need-settle-row-requires
-settle-row-requires c κs = (visit-room (c .before .before .before .before .before .before .before .before .args .net .now) (c .before .before .before .before .before .before .before .before .args .size) (c .before .before .before .before .before .before .before .before .args .ask) (c .before .before .before .before .before .before .before .before .args .chart .now) (c .before .before .before .before .before .before .before .before .args .last .now) (c .before .before .before .before .before .before .before .before .args .before .now) (c .before .before .before .before .before .before .before .before .pre .0) (c .before .before .before .before .before .before .before .before .args .p) (c .before .before .before .before .before .before .before .before .pre .1) (c .before .before .before .before .before .before .before .before .args .cells .now) (c .before .before .before .before .before .before .before .before .args .low .now) (c .before .before .before .before .before .before .before .before .pre .4) (c .before .before .before .width .result) (c .before .before .before .width .ensures), omega (arith, c .before .before .before .before .before .before .before .before .pre .3, c .before .before .before .width .ensures), omega (arith, c .before .before .before .before .before .before .before .before .pre .2, c .before .before .before .width .ensures))
+settle-row-requires c κs =
+    let start = c .before .before .before .before .before .before .before .before in
+    (visit-room (start .args .net .now) (start .args .size) (start .args .ask) (start .args .chart .now) (start .args .last .now) (start .args .before .now) (start .pre .0) (start .args .p) (start .pre .1) (start .args .cells .now) (start .args .low .now) (start .pre .4) (c .before .before .before .width .result) (c .before .before .before .width .ensures), omega (arith, start .pre .3, c .before .before .before .width .ensures), omega (arith, start .pre .2, c .before .before .before .width .ensures))
 
 ride-legs-requires : tie.Need-ride-legs-requires
-ride-legs-requires c κs = (
-  c .before .before .before .before .before .before .before .before .before .before .before .before .before .before .before .before .pre .0,
-  c .before .before .before .before .before .before .before .before .before .before .before .before .before .before .before .before .pre .1,
-  omega (arith, c .before .before .before .before .before .before .before .before .before .before .before .before .before .before .before .before .pre .2, c .before .before .before .before .before .before .before .settle-row .kept .1 .1 .1 .1 .0),
-  visit-begins (c .before .before .before .before .before .before .before .before .before .before .before .before .before .before .before .before .args .net .now) (c .before .before .before .before .before .before .before .before .before .before .before .before .before .before .before .before .args .size) (c .before .before .before .before .before .before .before .before .before .before .before .before .before .before .before .before .args .ask) (c .before .before .before .before .before .before .before .before .before .before .before .before .before .before .before .before .args .chart .now) (c .before .before .before .before .before .before .before .before .before .before .before .before .before .before .before .before .args .last .now) (c .before .before .before .before .before .before .before .before .before .before .before .before .before .before .before .before .args .before .now) (c .before .before .before .before .before .before .before .before .before .before .before .before .before .before .before .before .pre .0) (c .before .before .before .before .before .before .before .before .before .before .before .before .before .before .before .before .args .p) (c .before .before .before .before .before .before .before .before .before .before .before .before .before .before .before .before .pre .1) (c .before .before .before .before .before .before .before .before .before .before .before .before .before .before .before .before .args .cells .now) (c .before .before .before .before .before .before .before .before .before .before .before .before .before .before .before .before .args .low .now) (c .before .before .before .before .before .before .before .before .before .before .before .before .before .before .before .before .pre .4) (c .before .before .before .before .before .before .before .before .before .before .before .width .result) (c .before .before .before .before .before .before .before .before .before .before .before .width .ensures) _ _ (c .before .before .before .before .before .before .before .settle-row .ensures),
-)
+ride-legs-requires c κs =
+    let start = c .before .before .before .before .before .before .before .before .before .before .before .before .before .before .before .before in (
+      start .pre .0,
+      start .pre .1,
+      omega (arith, start .pre .2, c .before .before .before .before .before .before .before .settle-row .kept .1 .1 .1 .1 .0),
+      visit-begins (start .args .net .now) (start .args .size) (start .args .ask) (start .args .chart .now) (start .args .last .now) (start .args .before .now) (start .pre .0) (start .args .p) (start .pre .1) (start .args .cells .now) (start .args .low .now) (start .pre .4) (c .before .before .before .before .before .before .before .before .before .before .before .width .result) (c .before .before .before .before .before .before .before .before .before .before .before .width .ensures) _ _ (c .before .before .before .before .before .before .before .settle-row .ensures),
+    )
 
 same-length : tie.Need-same-length
 same-length c = search needs
