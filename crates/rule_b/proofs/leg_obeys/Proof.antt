@@ -76,12 +76,6 @@ returns c =
 sooner-requires : tie.Need-sooner-requires Inv-loop μ-loop
 sooner-requires c κs = search needs
 
-loop-less : tie.Need-loop-less Inv-loop μ-loop
-loop-less c =
-    let i = c .before .before .before .before .before .forward in
-    let b = c .before .before .before .before .begun in
-    omega (arith, c .sooner .ensures .0, c .before .before .before .before .before .before .before .loop .inv .0 .upto, i .ensures .past, b .ensures .1, c .before .before .before .before .before .before .loop-test .taken, c .before .before .before .before .before .before .before .before .before .before .before .before .pre .end, lies (c .sooner .ensures .2) (i .ensures .past) (b .ensures .1))
-
 loop-again : tie.Need-loop-again Inv-loop μ-loop
 loop-again c =
     let a = c .before .before .before .before .before .before .before .before .before .before .before .before .args in
@@ -94,6 +88,12 @@ loop-again c =
           (c .sooner .result) (c .sooner .ensures .0) (c .sooner .ensures .1) (lies (c .sooner .ensures .2) (i .ensures .past) (b .ensures .1)),
       refl,
     )
+
+loop-less : tie.Need-loop-less Inv-loop μ-loop
+loop-less c =
+    let i = c .before .before .before .before .before .forward in
+    let b = c .before .before .before .before .begun in
+    omega (arith, c .sooner .ensures .0, c .before .before .before .before .before .before .before .loop .inv .0 .upto, i .ensures .past, b .ensures .1, c .before .before .before .before .before .before .loop-test .taken, c .before .before .before .before .before .before .before .before .before .before .before .before .pre .end, lies (c .sooner .ensures .2) (i .ensures .past) (b .ensures .1))
 
 returns-2 : tie.Need-returns-2 Inv-loop μ-loop
 returns-2 c =
