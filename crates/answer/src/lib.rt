@@ -1,6 +1,7 @@
 // The answers of document 01: why a call refuses, and the paper's number for each reason.
 ghost use mathlib.Core.Path.{_≡_};
 ghost use Rattle.answer.specs.Numbers.{numberOf, answerNumber, answerLength};
+ghost use Rattle.answer.specs.Plans.{planNumber, planLength};
 
 // Why a call refuses, in the order of the paper's table.
 pub enum Refusal {
@@ -24,6 +25,13 @@ pub enum Refusal {
 // What a call answers: done, with the length of what it wrote, or a refusal.
 pub enum Answer {
     Done(u32),
+    Refused(Refusal),
+}
+
+// What the plan call and the sheet call answer: "no plan" is a refusal by its number, and writes a file all the same.
+pub enum PlanAnswer {
+    Done(u32),
+    NoPlan(u32),
     Refused(Refusal),
 }
 
@@ -70,6 +78,30 @@ impl Answer {
         match self {
             Answer::Done(written) => written,
             Answer::Refused(_) => 0,
+        }
+    }
+}
+
+impl PlanAnswer {
+    // The number that comes back.
+    pub fn number(self) -> u32
+        ensures { λ r. ⌜ r ≡ planNumber self ⌝ }
+    {
+        match self {
+            PlanAnswer::Done(_) => 0,
+            PlanAnswer::NoPlan(_) => 10,
+            PlanAnswer::Refused(why) => why.number(),
+        }
+    }
+
+    // The length that comes back.
+    pub fn length(self) -> u32
+        ensures { λ r. ⌜ r ≡ planLength self ⌝ }
+    {
+        match self {
+            PlanAnswer::Done(written) => written,
+            PlanAnswer::NoPlan(written) => written,
+            PlanAnswer::Refused(_) => 0,
         }
     }
 }

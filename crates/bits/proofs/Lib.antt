@@ -4,3 +4,4 @@ pub mod Splices
 pub mod Stores
 pub mod Puts
 pub mod Packing
+pub mod Joined

@@ -49,7 +49,15 @@ fn cut(word: u64, down: usize, width: usize) -> u32
     ((word >> down) % (1 << width)) as u32
 }
 
-// The field of `width` bits at bit `at`. Away from the end of the slice it is one load, one shift and one mask.
+// The field of `width` bits at bit `at`, where eight bytes are there from its first on: one load, one shift and one mask.
+pub fn take_inside(s: &[u8], at: usize, width: usize) -> u32
+    requires { ⌜ (1 ≤ width) × (width ≤ 32) × (at / 8 + 8 ≤ length (now s)) ⌝ }
+    ensures { λ r. ⌜ r ≡ field (now (s .entry)) at width ⌝ }
+{
+    cut(eight(s, at / 8), 64 - at % 8 - width, width)
+}
+
+// The field of `width` bits at bit `at`.
 pub fn take(s: &[u8], at: usize, width: usize) -> u32
     requires { ⌜ (1 ≤ width) × (width ≤ 32) × (at + width ≤ 8 * length (now s)) ⌝ }
     ensures { λ r. ⌜ r ≡ field (now (s .entry)) at width ⌝ }
@@ -57,7 +65,7 @@ pub fn take(s: &[u8], at: usize, width: usize) -> u32
     let i = at / 8;
     let skip = at % 8;
     if i + 8 <= s.len() {
-        return cut(eight(s, i), 64 - skip - width, width);
+        return take_inside(s, at, width);
     }
     let count = s.len() - i;
     cut(gather(s, i, count), 8 * count - skip - width, width)

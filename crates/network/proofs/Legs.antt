@@ -15,12 +15,13 @@ use Rattle.network.specs.declared.BandFound.{BandFound}
 use Rattle.network.specs.declared.Head.{Head}
 use Rattle.network.specs.declared.HeadFound.{HeadFound}
 use Rattle.network.specs.declared.LegFound.{LegFound}
+use Rattle.network.specs.declared.LegPassed.{LegPassed}
 use Rattle.network.specs.declared.Top.{Top}
 use Rattle.network.specs.declared.TopFound.{TopFound}
 use Rattle.network.specs.declared.Verdict.{Verdict}
 use Rattle.network.specs.Reading.{Found, refused, found}
-use Rattle.network.specs.Network.{Form, band, bands, bare, withBand, head, leg, legs, top, body, network}
-use Rattle.network.specs.Answers.{bandFound, headFound, topFound, legFound, bandsOf}
+use Rattle.network.specs.Network.{Form, edition1, band, bands, bare, withBand, head, leg, legs, top, body, network}
+use Rattle.network.specs.Answers.{bandFound, headFound, topFound, legFound, legPassed, bandsOf}
 
 -- a leg with the first k of its bands
 abbrev pub partLeg : Head → List Band → ℕ → Leg
@@ -34,6 +35,11 @@ module _ (src : Source) (n m least at : ℕ) (l : Leg) (e : n ≡ suc m) where
   pub bands-refused : (why : Refusal) → band least src at ≡ refused why → bands n least l src at ≡ refused why
   unfolding bands
   bands-refused why q = rw e (rw q)
+
+-- so many bands of a leg are judged, whatever its head is, and the rest is read from `place` on
+abbrev pub BandsPassed : Source → ℕ → ℕ → ℕ → ℕ → ℕ → Type 0
+BandsPassed src n at k least place =
+    (h : Head) → (bs : List Band) × (bands n 0 (bare edition1 h) src at ≡ bands (n - k) least (partLeg h bs k) src place)
 
 pub bands-done : (src : Source) (n least at : ℕ) (l : Leg) → n ≡ 0 → bands n least l src at ≡ found l at
 unfolding bands
@@ -116,6 +122,14 @@ module _ (form : Form) (src : Source) (at : ℕ) where
 
   pub network-topped : (t : Top) (after : ℕ) → top src at ≡ found t after → network form src at ≡ body form t src after
   network-topped t after e = rw e
+
+pub passed-of-sound : (x : Found Leg) (n at : ℕ) → legPassed x ≡ LegPassed.Sound n at → (l : Leg) × (x ≡ found l at) × (l .count ≡ n)
+passed-of-sound (refused why) n at e = let z : _≡_ {A = ℕ} 0 1 = cc in absurd (omega arith)
+passed-of-sound (found l m) n at e = (l, cc, cc)
+
+pub passed-of-refused : (x : Found Leg) (why : Refusal) → legPassed x ≡ LegPassed.Refused why → x ≡ refused why
+passed-of-refused (refused w) why e = cc
+passed-of-refused (found l m) why e = cc
 
 -- so many legs are read: they have so many bands, and the rest is read from `place` on
 pub record Passed (form : Form) (places n k : ℕ) (src : Source) (at place total : ℕ) : Type 0 where

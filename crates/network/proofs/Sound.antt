@@ -1,5 +1,5 @@
 -- Every leg of a network that was found keeps document 01's ranges and order.
-use Prim.Native.Nat.{ℕ, zero, suc, _+_, _≤_, _<_}
+use Prim.Native.Nat.{ℕ, zero, suc, _+_, _*_, _≤_, _<_}
 use mathlib.Core.Path.{_≡_, refl, sym, _∙_, ap, subst}
 use mathlib.Core.Bool.{Bool, true, false}
 use mathlib.Core.List.{List, [], _∷_, _++_}
@@ -16,6 +16,7 @@ use Rattle.source.specs.Source.{Source}
 use Rattle.network.specs.declared.Head.{Head}
 use Rattle.network.specs.Reading.{found}
 use Rattle.network.specs.Network.{Network, edition1, follows, band, bands, bare, withBand, head, leg, legs, network}
+use Rattle.network.specs.Answers.{bandsOf}
 use Rattle.network.proofs.Inversion.{inner-step, band-inv, start-small, toll-small, start-after, head-inv, head-count}
 use Rattle.network.proofs.Accepted.{accepted, next-leg}
 
@@ -135,6 +136,12 @@ pub record SoundNetwork (net : Network) : Type 0 where
   pub few-places : net .places ≤ 64
   pub few-legs : length (net .legs) ≤ 512
   pub each-leg : AllSound (net .places) (net .legs)
+
+-- sound legs have at most 8 bands each
+pub bands-few : (places : ℕ) (ls : List Leg) → AllSound places ls → bandsOf ls ≤ 8 * length ls
+bands-few places [] a = omega arith
+bands-few places (l ∷ ls) a =
+    omega (arith, a 0 l (omega arith) .few-bands, bands-few places ls (λ k other h. a (suc k) other (omega arith)))
 
 module _ (src : Source) where
   bands-part : (n least : ℕ) (l : Leg) (at : ℕ) (l′ : Leg) (end : ℕ) → bands n least l src at ≡ found l′ end → Part l least → l .count + n ≤ 8

@@ -15,6 +15,7 @@ use Rattle.network.specs.declared.Top.{Top}
 use Rattle.network.specs.declared.TopFound.{TopFound}
 use Rattle.network.specs.declared.Verdict.{Verdict}
 use Rattle.network.specs.declared.LegFound.{LegFound}
+use Rattle.network.specs.declared.LegPassed.{LegPassed}
 use Rattle.network.specs.Reading.{Found, refused, found}
 use Rattle.network.specs.Network.{Network, edition1, bare}
 
@@ -37,6 +38,10 @@ noLeg = bare edition1 (record { from = 0; to = 0; time = minute 0; count = 0 })
 abbrev pub legFound : Found Leg → LegFound
 legFound (refused why) = record { verdict = Verdict.Refused why; leg = noLeg; after = 0 }
 legFound (found l at) = record { verdict = Verdict.Sound; leg = l; after = at }
+
+abbrev pub legPassed : Found Leg → LegPassed
+legPassed (refused why) = LegPassed.Refused why
+legPassed (found l at) = LegPassed.Sound (l .count) at
 
 -- how many bands the legs have together
 abbrev pub bandsOf : List Leg → ℕ

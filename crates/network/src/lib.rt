@@ -4,7 +4,7 @@ ghost use Prim.Native.Nat.{_≤_};
 ghost use Rattle.source.specs.Source.{sourceOf};
 ghost use Rattle.network.specs.Reading.{refused};
 ghost use Rattle.network.specs.Network.{edition1, follows, band, bands, bare, head, leg, top, body, network};
-ghost use Rattle.network.specs.Answers.{bandFound, headFound, topFound, legFound, networkFound};
+ghost use Rattle.network.specs.Answers.{bandFound, headFound, topFound, legFound, legPassed, networkFound};
 use answer::Refusal;
 use leg::Band;
 use leg::Cents;
@@ -43,6 +43,12 @@ pub struct LegFound {
     pub verdict: Verdict,
     pub leg: Leg,
     pub after: usize,
+}
+
+// A leg that was judged and not kept: how many bands it has and the place after it, or why it is refused.
+pub enum LegPassed {
+    Refused(Refusal),
+    Sound(usize, usize),
 }
 
 // The head of a network: how many places and how many legs.
@@ -219,6 +225,43 @@ pub fn bands_from(origin: Origin, net: &[u8], list: &[u32], at: usize, head: Hea
     }
 }
 
+// The bands of a leg, judged and not kept.
+fn pass_bands(origin: Origin, net: &[u8], list: &[u32], at: usize, head: Head) -> LegPassed
+    requires { ⌜ (at ≤ 900000) × (head .count ≤ 8) ⌝ }
+    ensures { λ r. ⌜ r ≡ legPassed (bands (head .count) 0 (bare edition1 head) (sourceOf origin (now (net .entry)) (now (list .entry))) at) ⌝ }
+{
+    let count = head.count;
+    let mut place = at;
+    let mut least = 0;
+    let mut k = 0;
+    while k < count {
+        let found = band_from(origin, net, list, place, least);
+        match found {
+            BandFound::Refused(why) => {
+                return LegPassed::Refused(why);
+            }
+            BandFound::Sound(band, after) => {
+                place = after;
+                least = band.start.0 + 1;
+            }
+        }
+        k += 1;
+    }
+    LegPassed::Sound(count, place)
+}
+
+// One leg, judged and not kept: what a first pass over a file needs.
+fn pass_leg(origin: Origin, net: &[u8], list: &[u32], at: usize, places: u32) -> LegPassed
+    requires { ⌜ at ≤ 800000 ⌝ }
+    ensures { λ r. ⌜ r ≡ legPassed (leg edition1 places (sourceOf origin (now (net .entry)) (now (list .entry))) at) ⌝ }
+{
+    let found = head_from(origin, net, list, at, places);
+    match found {
+        HeadFound::Refused(why) => LegPassed::Refused(why),
+        HeadFound::Sound(head, after) => pass_bands(origin, net, list, after, head),
+    }
+}
+
 // One leg: its head, then its bands.
 pub fn leg_from(origin: Origin, net: &[u8], list: &[u32], at: usize, places: u32) -> LegFound
     requires { ⌜ at ≤ 800000 ⌝ }
@@ -276,14 +319,16 @@ pub fn body_from(origin: Origin, net: &[u8], list: &[u32], at: usize, top: Top) 
     let mut bands = 0;
     let mut k = 0;
     while k < legs {
-        let found = leg_from(origin, net, list, place, places);
-        let verdict = found.verdict;
-        if let Verdict::Refused(why) = verdict {
-            return NetworkFound::Refused(why);
+        let found = pass_leg(origin, net, list, place, places);
+        match found {
+            LegPassed::Refused(why) => {
+                return NetworkFound::Refused(why);
+            }
+            LegPassed::Sound(count, after) => {
+                bands += count;
+                place = after;
+            }
         }
-        let leg = found.leg;
-        place = found.after;
-        bands += leg.count;
         k += 1;
     }
     if source::ends(origin, net, list, place) {

@@ -83,3 +83,10 @@ pub record Listed (l : List ℕ) (at want : ℕ) (r : Fields) : Type 0 where
   pub three : (ltb (at + 2) (length l) ≡ ltb 2 (r .have)) × (getD l (at + 2) 0 ≡ r .c)
   pub four : (ltb (at + 3) (length l) ≡ ltb 3 (r .have)) × (getD l (at + 3) 0 ≡ r .d)
   pub place : r .after ≡ at + want
+
+-- a leg's head, and a band, in a file from a bit on
+abbrev pub HeadFields : List ℕ → ℕ → Fields → Type 0
+HeadFields s at r = Fetched (fileOf s) at headWidths (r .a ∷ r .b ∷ r .c ∷ r .d ∷ []) 0 (r .have) (r .after)
+
+abbrev pub BandFields : List ℕ → ℕ → Fields → Type 0
+BandFields s at r = Fetched (fileOf s) at bandWidths (r .a ∷ r .b ∷ []) 0 (r .have) (r .after)

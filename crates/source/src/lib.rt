@@ -5,7 +5,7 @@ ghost use Prim.Native.Nat.{_+_, _-_, _*_, _≤_};
 ghost use lib.Dec.{leb};
 ghost use lib.ListN.{length, getD};
 ghost use Rattle.bits.specs.Field.{field};
-ghost use Rattle.source.specs.Source.{sourceOf, fileOf, Whole, topWidths, headWidths, bandWidths, Fetched, Listed};
+ghost use Rattle.source.specs.Source.{sourceOf, fileOf, Whole, topWidths, headWidths, bandWidths, Fetched, Listed, HeadFields, BandFields};
 
 // Which of the two slices that a call is lent holds the fields.
 pub enum Origin {
@@ -82,10 +82,10 @@ fn top_in_file(net: &[u8]) -> Fields
     }
 }
 
-// The head of a leg: from 6, to 6, driving time 12, bands 4.
-fn head_in_file(net: &[u8], at: usize) -> Fields
+// The head of a leg near the end of the file, as far as it is there.
+fn cut_head(net: &[u8], at: usize) -> Fields
     requires { ⌜ at ≤ 1000000 ⌝ }
-    ensures { λ r. ⌜ Fetched (fileOf (now (net .entry))) at headWidths (r .a ∷ r .b ∷ r .c ∷ r .d ∷ []) 0 (r .have) (r .after) ⌝ }
+    ensures { λ r. ⌜ HeadFields (now (net .entry)) at r ⌝ }
 {
     let x = padded(net, at, 28);
     Fields {
@@ -98,14 +98,52 @@ fn head_in_file(net: &[u8], at: usize) -> Fields
     }
 }
 
-// A band: start 12, toll 16.
-fn band_in_file(net: &[u8], at: usize) -> Fields
+// The head of a leg: from 6, to 6, driving time 12, bands 4.
+fn head_in_file(net: &[u8], at: usize) -> Fields
     requires { ⌜ at ≤ 1000000 ⌝ }
-    ensures { λ r. ⌜ Fetched (fileOf (now (net .entry))) at bandWidths (r .a ∷ r .b ∷ []) 0 (r .have) (r .after) ⌝ }
+    ensures { λ r. ⌜ HeadFields (now (net .entry)) at r ⌝ }
+{
+    if net.len() < at / 8 + 8 {
+        return cut_head(net, at);
+    }
+    let x = bits::take_inside(net, at, 28);
+    Fields {
+        have: 4,
+        a: x / 0x40_0000,
+        b: x / 0x1_0000 % 0x40,
+        c: x / 0x10 % 0x1000,
+        d: x % 0x10,
+        after: at + 28,
+    }
+}
+
+// A band near the end of the file, as far as it is there.
+fn cut_band(net: &[u8], at: usize) -> Fields
+    requires { ⌜ at ≤ 1000000 ⌝ }
+    ensures { λ r. ⌜ BandFields (now (net .entry)) at r ⌝ }
 {
     let x = padded(net, at, 28);
     Fields {
         have: whole(net, at, 12, 28, 28, 28),
+        a: x / 0x1_0000,
+        b: x % 0x1_0000,
+        c: 0,
+        d: 0,
+        after: at + 28,
+    }
+}
+
+// A band: start 12, toll 16.
+fn band_in_file(net: &[u8], at: usize) -> Fields
+    requires { ⌜ at ≤ 1000000 ⌝ }
+    ensures { λ r. ⌜ BandFields (now (net .entry)) at r ⌝ }
+{
+    if net.len() < at / 8 + 8 {
+        return cut_band(net, at);
+    }
+    let x = bits::take_inside(net, at, 28);
+    Fields {
+        have: 4,
         a: x / 0x1_0000,
         b: x % 0x1_0000,
         c: 0,

@@ -11,23 +11,11 @@ use Rattle.bits.proofs.take.Tie as tie
 add-if1 : tie.Need-add-if1
 add-if1 c = search needs
 
-eight-requires : tie.Need-eight-requires
-eight-requires c κs = search needs
-
-sub-cut : tie.Need-sub-cut
-sub-cut c = search needs
-
-sub-cut-2 : tie.Need-sub-cut-2
-sub-cut-2 c = search needs
-
-cut-requires : tie.Need-cut-requires
-cut-requires c κs = search needs
+take-inside-requires : tie.Need-take-inside-requires
+take-inside-requires c κs = search needs
 
 returns : tie.Need-returns
-returns c =
-    let a = c .before .before .before .before .args in
-    let inside : a .at % 8 + a .width ≤ 64 = omega arith in
-    c .cut .ensures ∙ field-cut (a .s .now) (a .at) (a .width) 8 inside (c .before .eight .ensures)
+returns c = search needs
 
 sub-count : tie.Need-sub-count
 sub-count c = search needs
@@ -38,36 +26,33 @@ gather-requires c κs = search needs
 mul-cut : tie.Need-mul-cut
 mul-cut c = search needs
 
-sub-cut-3 : tie.Need-sub-cut-3
-sub-cut-3 c = search needs
+sub-cut : tie.Need-sub-cut
+sub-cut c = search needs
 
-sub-cut-4 : tie.Need-sub-cut-4
-sub-cut-4 c = search needs
+sub-cut-2 : tie.Need-sub-cut-2
+sub-cut-2 c = search needs
 
-cut-requires-2 : tie.Need-cut-requires-2
-cut-requires-2 c κs = search needs
+cut-requires : tie.Need-cut-requires
+cut-requires c κs = search needs
 
 returns-2 : tie.Need-returns-2
 returns-2 c =
     let a = c .before .before .before .before .args in
     let count = length (a .s .now) - a .at / 8 in
     let inside : a .at % 8 + a .width ≤ 8 * count = omega arith in
-    c .cut2 .ensures ∙ field-cut (a .s .now) (a .at) (a .width) count inside (c .before .gather .ensures)
+    c .cut .ensures ∙ field-cut (a .s .now) (a .at) (a .width) count inside (c .before .gather .ensures)
 
 pub take-spec : {M : Type 1} → statement M
 take-spec =
     tie.close
     (tie.spec
     add-if1
-    eight-requires
-    sub-cut
-    sub-cut-2
-    cut-requires
+    take-inside-requires
     returns
     sub-count
     gather-requires
     mul-cut
-    sub-cut-3
-    sub-cut-4
-    cut-requires-2
+    sub-cut
+    sub-cut-2
+    cut-requires
     returns-2)

@@ -1,19 +1,35 @@
+use Prim.Native.Nat.{_+_, _*_}
+use native.Mathlib.Omega.{arith}
+use lib.ListN.{length}
 use borrow.Author.Needs.{needs}
+use borrow.Author.Tests.{le-leb}
+use Rattle.source.proofs.Laws.{whole-four}
 use Rattle.source.proofs.Fetch.{file-band}
 use Rattle.source.proofs.band_in_file.Statement.{statement}
 use Rattle.source.proofs.band_in_file.Tie as tie
 
-padded-requires : tie.Need-padded-requires
-padded-requires c κs = search needs
+add-if1 : tie.Need-add-if1
+add-if1 c = search needs
 
-whole-requires : tie.Need-whole-requires
-whole-requires c κs = search needs
-
-add-t7 : tie.Need-add-t7
-add-t7 c = search needs
+cut-band-requires : tie.Need-cut-band-requires
+cut-band-requires c κs = search needs
 
 returns : tie.Need-returns
-returns c = file-band _ _ _ _ (c .whole .ensures) (c .before .padded .ensures)
+returns c = search needs
+
+take-inside-requires : tie.Need-take-inside-requires
+take-inside-requires c κs = search needs
+
+add-t4 : tie.Need-add-t4
+add-t4 c = search needs
+
+returns-2 : tie.Need-returns-2
+returns-2 c =
+    let a = c .before .before .before .args in
+    let end = 8 * length (a .net .now) in
+    let all = whole-four end (a .at) 12 28 28 28 (omega arith, omega arith, omega arith) (le-leb (a .at + 28) end (omega arith)) in
+    file-band (a .net .now) (a .at) (c .take-inside .result) 4 all (c .take-inside .ensures)
 
 pub band-in-file-spec : {M : Type 1} → statement M
-band-in-file-spec = tie.close (tie.spec padded-requires whole-requires add-t7 returns)
+band-in-file-spec =
+    tie.close (tie.spec add-if1 cut-band-requires returns take-inside-requires add-t4 returns-2)

@@ -1,19 +1,35 @@
+use Prim.Native.Nat.{_+_, _*_}
+use native.Mathlib.Omega.{arith}
+use lib.ListN.{length}
 use borrow.Author.Needs.{needs}
+use borrow.Author.Tests.{le-leb}
+use Rattle.source.proofs.Laws.{whole-four}
 use Rattle.source.proofs.Fetch.{file-head}
 use Rattle.source.proofs.head_in_file.Statement.{statement}
 use Rattle.source.proofs.head_in_file.Tie as tie
 
-padded-requires : tie.Need-padded-requires
-padded-requires c κs = search needs
+add-if1 : tie.Need-add-if1
+add-if1 c = search needs
 
-whole-requires : tie.Need-whole-requires
-whole-requires c κs = search needs
-
-add-t11 : tie.Need-add-t11
-add-t11 c = search needs
+cut-head-requires : tie.Need-cut-head-requires
+cut-head-requires c κs = search needs
 
 returns : tie.Need-returns
-returns c = file-head _ _ _ _ (c .whole .ensures) (c .before .padded .ensures)
+returns c = search needs
+
+take-inside-requires : tie.Need-take-inside-requires
+take-inside-requires c κs = search needs
+
+add-t4 : tie.Need-add-t4
+add-t4 c = search needs
+
+returns-2 : tie.Need-returns-2
+returns-2 c =
+    let a = c .before .before .before .args in
+    let end = 8 * length (a .net .now) in
+    let all = whole-four end (a .at) 6 12 24 28 (omega arith, omega arith, omega arith) (le-leb (a .at + 28) end (omega arith)) in
+    file-head (a .net .now) (a .at) (c .take-inside .result) 4 all (c .take-inside .ensures)
 
 pub head-in-file-spec : {M : Type 1} → statement M
-head-in-file-spec = tie.close (tie.spec padded-requires whole-requires add-t11 returns)
+head-in-file-spec =
+    tie.close (tie.spec add-if1 cut-head-requires returns take-inside-requires add-t4 returns-2)

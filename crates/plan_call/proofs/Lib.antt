@@ -1,0 +1,6 @@
+pub mod Lengths
+pub mod Answers
+pub mod Judging
+pub mod Tables
+pub mod Once
+pub mod Serving

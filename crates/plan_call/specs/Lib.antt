@@ -1,0 +1,3 @@
+pub mod Judge
+pub mod Call
+pub mod Tabled

@@ -1,0 +1,4 @@
+pub mod Cells
+pub mod Nets
+pub mod Steps
+pub mod Ends
