@@ -1,0 +1,4 @@
+pub mod Walks
+pub mod Bands
+pub mod Enough
+pub mod Turn

@@ -1,0 +1,180 @@
+// Rule (b) for one leg: its steps and its bands are walked once, forward in time.
+ghost use mathlib.Core.Path.{_≡_};
+ghost use Prim.Native.Nat.{_+_, _*_, _≤_, _<_};
+ghost use lib.ListN.{length};
+ghost use Rattle.plan.specs.Sheet.{Steps, value};
+ghost use Rattle.sheet_file.specs.Window.{window};
+ghost use Rattle.sheet_file.specs.InPlace.{stepsAt, placeAt, countAt};
+ghost use Rattle.rule_b.specs.Rule.{Is, RuleB, InOrder};
+ghost use Rattle.rule_b.specs.Cursor.{firstOf, shown, startOr, Held, Begun, Moved, Banded, Covers, Or, PlaceAsked, LegAsked};
+use leg::Leg;
+
+// A place in a list of steps: the bit of the next step, how many are left, its minute; and the cost of the last step passed, if there is one.
+pub struct Cursor {
+    pub at: usize,
+    pub left: usize,
+    pub next: u32,
+    pub has: bool,
+    pub price: u32,
+}
+
+// A place in a leg's bands: how many are passed, where the next starts, and the toll of the last that was passed.
+pub struct Tolls {
+    pub passed: usize,
+    pub next: u32,
+    pub toll: u32,
+}
+
+// The minute of the first of `left` steps at a bit.
+fn first(sheet: &[u8], at: usize, left: usize) -> u32
+    requires { ⌜ at + 44 * left ≤ 8 * length (now sheet) ⌝ }
+    ensures { λ r. ⌜ r ≡ firstOf (stepsAt (now (sheet .entry)) at left) ⌝ }
+{
+    if left == 0 {
+        return 4096;
+    }
+    bits::take(sheet, at, 12)
+}
+
+// Before the first step of the place whose count stands at a bit.
+fn begin(sheet: &[u8], place: u32) -> Cursor
+    requires { ⌜ place + 12 + 44 * countAt (now sheet) place ≤ 8 * length (now sheet) ⌝ }
+    ensures { λ r. ⌜ Begun (now (sheet .entry)) place r ⌝ }
+{
+    let at = place as usize + 12;
+    let left = bits::take(sheet, place as usize, 12) as usize;
+    let next = first(sheet, at, left);
+    Cursor {
+        at,
+        left,
+        next,
+        has: false,
+        price: 0,
+    }
+}
+
+// Past every step up to a minute.
+fn forward(sheet: &[u8], cursor: Cursor, minute: u32) -> Cursor
+    requires { ⌜ Held (now sheet) cursor × (minute < 4096) ⌝ }
+    ensures { λ r. ⌜ Moved (now (sheet .entry)) minute cursor r ⌝ }
+{
+    let mut at = cursor.at;
+    let mut left = cursor.left;
+    let mut next = cursor.next;
+    let mut has = cursor.has;
+    let mut price = cursor.price;
+    while next <= minute {
+        price = bits::take(sheet, at + 12, 32);
+        has = true;
+        at += 44;
+        left -= 1;
+        next = first(sheet, at, left);
+    }
+    Cursor {
+        at,
+        left,
+        next,
+        has,
+        price,
+    }
+}
+
+// The value of a place at a minute, and whether it has one.
+pub struct Value {
+    pub has: bool,
+    pub price: u32,
+}
+
+// The value at a minute of the place whose count of steps stands at a bit.
+pub fn value_at(sheet: &[u8], place: u32, minute: u32, earliest: u32, latest: u32) -> Value
+    requires { ⌜ PlaceAsked (now sheet) place (window earliest latest) × (minute < 4096) ⌝ }
+    ensures { λ r. ⌜ value (placeAt (now (sheet .entry)) place) minute ≡ shown (r .has) (r .price) ⌝ }
+{
+    let cursor = forward(sheet, begin(sheet, place), minute);
+    Value {
+        has: cursor.has,
+        price: cursor.price,
+    }
+}
+
+// Where band k starts.
+fn start_of(leg: Leg, k: usize) -> u32
+    requires { ⌜ leg .count ≤ 8 ⌝ }
+    ensures { λ r. ⌜ r ≡ startOr leg k ⌝ }
+{
+    if leg.count <= k {
+        return 4096;
+    }
+    let bands = leg.bands;
+    let band = bands[k];
+    band.start.0
+}
+
+// Past every band that has begun at a minute.
+fn begun(leg: Leg, tolls: Tolls, minute: u32) -> Tolls
+    requires { ⌜ InOrder leg × Banded leg minute tolls × (minute < 4096) ⌝ }
+    ensures { λ r. ⌜ Banded leg minute r × (minute < r .next) ⌝ }
+{
+    let bands = leg.bands;
+    let mut passed = tolls.passed;
+    let mut next = tolls.next;
+    let mut toll = tolls.toll;
+    while next <= minute {
+        let band = bands[passed];
+        toll = band.toll.0;
+        passed += 1;
+        next = start_of(leg, passed);
+    }
+    Tolls { passed, next, toll }
+}
+
+// Does the value at the arrival cover the value at the departure and the toll?
+fn covered(from: Cursor, tolls: Tolls, to: Cursor) -> bool
+    ensures { λ r. ⌜ Is r (Covers (shown (from .has) (from .price)) (shown (to .has) (to .price)) (tolls .toll)) ⌝ }
+{
+    if !from.has {
+        return true;
+    }
+    if !to.has {
+        return false;
+    }
+    to.price as u64 <= from.price as u64 + tolls.toll as u64
+}
+
+// The smaller of two minutes.
+fn sooner(a: u32, b: u32) -> u32
+    ensures { λ r. ⌜ (r ≤ a) × (r ≤ b) × Or (r ≡ a) (r ≡ b) ⌝ }
+{
+    if a < b {
+        return a;
+    }
+    b
+}
+
+// Does the sheet obey rule (b) for this leg? Nothing but the value at the arrival changes between two steps and two band starts,
+// and that only falls: so the rule is tested at the steps of the place that the leg leaves, and where a band starts.
+pub fn leg_obeys(sheet: &[u8], leg: Leg, from: u32, to: u32, earliest: u32, latest: u32) -> bool
+    requires { ⌜ LegAsked (now sheet) leg from to (window earliest latest) ⌝ }
+    ensures { λ r. ⌜ Is r (RuleB latest leg (placeAt (now (sheet .entry)) from) (placeAt (now (sheet .entry)) to)) ⌝ }
+{
+    let time = leg.time.0;
+    let mut i = begin(sheet, from);
+    let mut j = begin(sheet, to);
+    let next = start_of(leg, 0);
+    let mut tolls = Tolls {
+        passed: 0,
+        next,
+        toll: 0,
+    };
+    let mut departure = i.next;
+    while departure + time <= latest {
+        i = forward(sheet, i, departure);
+        tolls = begun(leg, tolls, departure);
+        j = forward(sheet, j, departure + time);
+        if !covered(i, tolls, j) {
+            return false;
+        }
+        departure = sooner(i.next, tolls.next);
+    }
+    true
+}

@@ -1,0 +1,3 @@
+pub mod SheetFile
+pub mod InPlace
+pub mod Window

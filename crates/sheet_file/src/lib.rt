@@ -1,0 +1,179 @@
+// A sheet file, judged in the order of its fields: sound or not, and where each place's steps stand.
+ghost use mathlib.Core.Path.{_≡_};
+ghost use mathlib.Core.Bool.{false};
+ghost use Prim.Native.Nat.{_+_, _*_, _≤_};
+ghost use lib.Dec.{leb};
+ghost use lib.ListN.{length};
+ghost use Rattle.bits.specs.Field.{field};
+ghost use Rattle.source.specs.Source.{fileOf};
+ghost use Rattle.sheet_file.specs.SheetFile.{step, steps, onePlace, top, sheetOf, anyCost};
+ghost use Rattle.sheet_file.specs.InPlace.{stepAt, stepsAt, placeAt, countAt, Tested, Judged};
+ghost use Rattle.sheet_file.specs.Window.{StepIs, PlaceIs, window};
+
+// A step, where it is sound.
+pub struct StepFound {
+    pub sound: bool,
+    pub minute: u32,
+    pub price: u32,
+}
+
+// Whether a place's steps are sound, and the bit after them.
+pub struct PlaceFound {
+    pub sound: bool,
+    pub after: usize,
+}
+
+// Whether a sheet is sound, and the bit where each place's count of steps stands.
+pub struct SheetFound {
+    pub sound: bool,
+    pub index: [u32; 64],
+}
+
+// Are the `width` bits at bit `at` all there?
+fn there(sheet: &[u8], at: usize, width: usize) -> bool
+    requires { ⌜ (at ≤ 10000000) × (width ≤ 44) ⌝ }
+    ensures { λ r. ⌜ r ≡ leb (at + width) (8 * length (now (sheet .entry))) ⌝ }
+{
+    (at + width + 7) / 8 <= sheet.len()
+}
+
+// The last byte is filled with zero bits, and nothing follows.
+fn ends(sheet: &[u8], at: usize) -> bool
+    requires { ⌜ at ≤ 10000000 ⌝ }
+    ensures { λ r. ⌜ r ≡ fileOf (now (sheet .entry)) .ends at ⌝ }
+{
+    if sheet.len() != (at + 7) / 8 {
+        return false;
+    }
+    let fill = 8 * sheet.len() - at;
+    if fill == 0 {
+        return true;
+    }
+    bits::take(sheet, at, fill) == 0
+}
+
+// What an unsound step comes back as.
+fn no_step() -> StepFound
+    ensures { λ r. ⌜ r ≡ record { sound = false; minute = 0; price = 0 } ⌝ }
+{
+    StepFound {
+        sound: false,
+        minute: 0,
+        price: 0,
+    }
+}
+
+// One step: its minute from `low` to `latest`, its cost below `limit`.
+fn step_from(sheet: &[u8], at: usize, low: u32, latest: u32, limit: u64) -> StepFound
+    requires { ⌜ at ≤ 9000000 ⌝ }
+    ensures { λ r. ⌜ StepIs (now (sheet .entry)) at low latest limit r ⌝ }
+{
+    if !there(sheet, at, 44) {
+        return no_step();
+    }
+    let minute = bits::take(sheet, at, 12);
+    let price = bits::take(sheet, at + 12, 32);
+    if minute < low {
+        return no_step();
+    }
+    if latest < minute {
+        return no_step();
+    }
+    if limit <= price as u64 {
+        return no_step();
+    }
+    StepFound {
+        sound: true,
+        minute,
+        price,
+    }
+}
+
+// Are the steps of a place, which begin at bit `at`, sound?
+fn steps_sound(sheet: &[u8], at: usize, count: usize, earliest: u32, latest: u32) -> bool
+    requires { ⌜ (at ≤ 8500000) × (count ≤ 2880) ⌝ }
+    ensures { λ r. ⌜ Tested r (steps count earliest latest anyCost (fileOf (now (sheet .entry))) at) (stepsAt (now (sheet .entry)) at count) (at + 44 * count) ⌝ }
+{
+    let mut low = earliest;
+    let mut limit: u64 = 0x1_0000_0000;
+    let mut k = 0;
+    while k < count {
+        let step = step_from(sheet, at + 44 * k, low, latest, limit);
+        if !step.sound {
+            return false;
+        }
+        low = step.minute + 1;
+        limit = step.price as u64;
+        k += 1;
+    }
+    true
+}
+
+// One place: the number of its steps, then the steps.
+fn place_from(sheet: &[u8], at: usize, earliest: u32, latest: u32) -> PlaceFound
+    requires { ⌜ at ≤ 8200000 ⌝ }
+    ensures { λ r. ⌜ PlaceIs (now (sheet .entry)) at (window earliest latest) r ⌝ }
+{
+    if !there(sheet, at, 12) {
+        return PlaceFound {
+            sound: false,
+            after: 0,
+        };
+    }
+    let count = bits::take(sheet, at, 12) as usize;
+    if 2880 < count {
+        return PlaceFound {
+            sound: false,
+            after: 0,
+        };
+    }
+    let sound = steps_sound(sheet, at + 12, count, earliest, latest);
+    PlaceFound {
+        sound,
+        after: at + 12 + 44 * count,
+    }
+}
+
+// Edition 1, and the network's number of places.
+fn top_sound(sheet: &[u8], places: u32) -> bool
+    ensures { λ r. ⌜ Tested r (top places (fileOf (now (sheet .entry))) 0) tt 15 ⌝ }
+{
+    if !there(sheet, 0, 15) {
+        return false;
+    }
+    if bits::take(sheet, 0, 8) != 1 {
+        return false;
+    }
+    bits::take(sheet, 8, 7) == places
+}
+
+// A whole sheet file.
+pub fn sheet_from(sheet: &[u8], places: u32, earliest: u32, latest: u32) -> SheetFound
+    requires { ⌜ places ≤ 64 ⌝ }
+    ensures { λ r. ⌜ Judged (now (sheet .entry)) places (sheetOf places (window earliest latest) (now (sheet .entry))) r ⌝ }
+{
+    let mut index = [0; 64];
+    if !top_sound(sheet, places) {
+        return SheetFound {
+            sound: false,
+            index,
+        };
+    }
+    let count = places as usize;
+    let mut place = 15;
+    let mut k = 0;
+    while k < count {
+        let found = place_from(sheet, place, earliest, latest);
+        if !found.sound {
+            return SheetFound {
+                sound: false,
+                index,
+            };
+        }
+        index[k] = place as u32;
+        place = found.after;
+        k += 1;
+    }
+    let sound = ends(sheet, place);
+    SheetFound { sound, index }
+}
