@@ -8,3 +8,6 @@ pub mod Fields
 pub mod Accepted
 pub mod Sound
 pub mod Files
+pub mod Carries
+pub mod Traces
+pub mod RoundTrip

@@ -5,18 +5,18 @@ use mathlib.Core.List.{List, [], _∷_, _++_, append-assoc, append-nil}
 use native.Mathlib.Omega.{arith}
 use borrow.Author.Tests.{leb-true, ltb-true}
 use lib.ListN.{length, getD, set, replicate}
-use Rattle.answer.specs.declared.Refusal.the-variants.{Tail}
 use Rattle.leg.specs.declared.Band.{Band}
 use Rattle.leg.specs.declared.Leg.{Leg}
 use Rattle.leg.specs.Ranges.{lastMinute, mostCents, noBand}
 use Rattle.source.specs.declared.Origin.the-variants.{Numbers}
 use Rattle.source.specs.Source.{Source, listOf}
-use Rattle.network.specs.declared.Top.{Top}
 use Rattle.network.specs.Reading.{found}
-use Rattle.network.specs.Network.{Network, edition1, band, bands, bare, withBand, head, leg, legs, top, body, ofList}
+use Rattle.network.specs.Network.{Network, edition1, band, bands, bare, withBand, head, leg, legs, ofList}
 use Rattle.network.specs.Answers.{bandsOf}
-use Rattle.network.proofs.Inversion.{check-step, inner-step, band-inv, start-small, head-inv, top-inv}
+use Rattle.network.proofs.Inversion.{inner-step, band-inv, start-small, head-inv}
+use Rattle.network.proofs.Accepted.{accepted}
 use Rattle.network.proofs.Near.{leg-near}
+use Rattle.network.proofs.Sound.{network-sound, bands-few}
 use Rattle.write_call.specs.Steps.{Small}
 
 abbrev SmallBand : Band → Type 0
@@ -117,24 +117,12 @@ pub record Parts (list : List ℕ) (net : Network) : Type 0 where
 
 pub parts : (list : List ℕ) (net : Network) (end : ℕ) → ofList list ≡ found net end → Parts list net
 parts list net end e =
-    let src = listOf list in
-    let s = inner-step net end (top src 0) (λ (t : Top) (at : ℕ). body edition1 t src at) e in
-    let t = s .0 in
-    let r = top-inv src 0 t (s .1) (s .2) in
-    let three : s .1 ≡ 3 = r .end-is in
-    let u =
-    inner-step net end (legs edition1 (t .places) (t .legs) [] src (s .1)) _ (s .3)
-    in
-    let v = check-step net end (src .ends (u .1)) Tail (u .1) (λ (at : ℕ). found (record { places = t .places; legs = u .0 }) at) (u .3) in
-    let is : record { places = t .places; legs = u .0 } ≡ net = cc (v .1) in
-    let f = legs-further list (t .places) (t .legs) [] (s .1) (u .0) (u .1) (u .2) in
-    let all : u .0 ≡ f .more = f .all-are in
-    let count : length (u .0) ≡ t .legs = ap length all ∙ f .size in
-    rw (← is)
-    (record {
-      places-few = r .places-within .1;
-      legs-few = omega (arith, count, r .legs-within);
-      bands-few = omega (arith, ap bandsOf all, f .few, r .legs-within);
-      end = u .1;
-      read = rw (count, ← three) (u .2);
-    })
+    let a = accepted edition1 (listOf list) net end e in
+    let s = network-sound (listOf list) net end e in
+    record {
+      places-few = s .few-places;
+      legs-few = s .few-legs;
+      bands-few = omega (arith, bands-few (net .places) (net .legs) (s .each-leg), s .few-legs);
+      end = end;
+      read = rw (a .top-read .end-is) at (a .legs-read);
+    }
