@@ -4,3 +4,4 @@ pub mod Judging
 pub mod Tables
 pub mod Once
 pub mod Serving
+pub mod Filling

@@ -5,16 +5,19 @@ ghost use lib.ListN.{length};
 ghost use Rattle.network.specs.declared.NetworkFound.{NetworkFound};
 ghost use Rattle.network.specs.Network.{ofFile};
 ghost use Rattle.network.specs.Answers.{networkFound};
+ghost use Rattle.plan.specs.Table.{width};
 ghost use Rattle.plan_file.specs.PlanFile.{queryOf};
 ghost use Rattle.walk.specs.Walk.{netOf};
 ghost use Rattle.plan_call.specs.Judge.{judgement};
-ghost use Rattle.plan_call.specs.Call.{Answered};
-ghost use Rattle.plan_call.specs.Tabled.{Tabled};
+ghost use Rattle.plan_call.specs.Call.{asking, Answered, Plans};
+ghost use Rattle.plan_call.specs.Tabled.{Servable, Tabled, Serves};
 use answer::PlanAnswer;
 use answer::Refusal;
 use leg::Minute;
+use network::NetworkFound;
 use network::Size;
 use plan_file::Query;
+use source::Origin;
 
 // What is tested before anything is planned.
 pub enum Judgement {
@@ -93,4 +96,52 @@ fn answer(net: &[u8], size: Size, query: Query, cells: &[u32], out: &mut [u8]) -
         arrival,
     );
     PlanAnswer::Done(bytes)
+}
+
+// The table filled, then the answer.
+fn serve(net: &[u8], size: Size, query: Query, cells: &mut [u32], out: &mut [u8]) -> PlanAnswer
+    requires { ⌜ Servable (now net) size query × (length (now cells) ≡ size .places * width (queryOf query)) ⌝ }
+    ensures { λ r. ⌜ Serves (netOf (now (net .entry))) (queryOf query) (now (cells .entry)) (now (cells .exit))
+        (now (out .entry)) (now (out .exit)) r ⌝ }
+{
+    let earliest = query.earliest;
+    let latest = query.latest;
+    table::fill(net, size, query.start, earliest.0, latest.0, cells);
+    answer(net, size, query, cells, out)
+}
+
+// THE PLAN CALL.
+pub fn plan(
+    net: &[u8],
+    start: u32,
+    end: u32,
+    earliest: u32,
+    latest: u32,
+    table: &mut [u32],
+    out: &mut [u8],
+) -> PlanAnswer
+    ensures { λ r. ⌜ Plans (now (net .entry)) (asking start end earliest latest) (now (table .entry)) (now (table .exit))
+        (now (out .entry)) (now (out .exit)) r ⌝ }
+{
+    let no_list = [0u32; 1];
+    let found = network::network_from(Origin::File, net, &no_list);
+    match found {
+        NetworkFound::Refused(why) => PlanAnswer::Refused(why),
+        NetworkFound::Sound(size) => {
+            let query = Query {
+                start,
+                end,
+                earliest: Minute(earliest),
+                latest: Minute(latest),
+            };
+            let judgement = judge(size, query, table.len());
+            match judgement {
+                Judgement::Refuse(why) => PlanAnswer::Refused(why),
+                Judgement::Serve => {
+                    let cells = area(size.places, latest - earliest + 1);
+                    serve(net, size, query, &mut table[..cells], out)
+                }
+            }
+        }
+    }
 }
