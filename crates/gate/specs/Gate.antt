@@ -37,19 +37,22 @@ abbrev pub Holds : Network → PlanFile → Type 0
 Holds N f = f .verdict ≡ 1 → Costs N f
 
 -- the cost that a plan file states: none with verdict "none"
+abbrev pub statedCost : ℕ → Cents → Option Cents
+statedCost verdict price = cond (eqb verdict 0) none (some price)
+
 abbrev pub stated : PlanFile → Option Cents
-stated f = cond (eqb (f .verdict) 1) (some (f .price)) none
+stated f = statedCost (f .verdict) (f .price)
 
 -- where P does not hold the answer is this refusal; where it does, the rest decides
 abbrev pub Unless : Answer → Refusal → Type 0 → Type 0 → Type 0
 Unless r why P rest = (P → rest) × ((P → ⊥) → r ≡ Answer.Refused why)
 
 -- the sheet
-abbrev pub OfSheet : Answer → Network → PlanFile → Found (List (List Step)) → Type 0
-OfSheet r N f (refused why) = r ≡ Answer.Refused Refusal.SheetFile
-OfSheet r N f (found sheet end) =
-    Unless r Refusal.Rules (Obeys N (f .query) (valueAt sheet))
-    (Unless r Refusal.Loose (TightFor (f .query) (valueAt sheet) (stated f))
+abbrev pub OfSheet : Answer → Network → Query → Option Cents → Found (List (List Step)) → Type 0
+OfSheet r N q cost (refused why) = r ≡ Answer.Refused Refusal.SheetFile
+OfSheet r N q cost (found sheet end) =
+    Unless r Refusal.Rules (Obeys N q (valueAt sheet))
+    (Unless r Refusal.Loose (TightFor q (valueAt sheet) cost)
     (r ≡ Answer.Done 0))
 
 -- the query and the plan, then the sheet
@@ -58,7 +61,7 @@ OfPlan r net f sheet =
     Unless r Refusal.Query (Known (net .places) (f .query))
     (Unless r Refusal.Window (f .query .earliest ≤ f .query .latest)
     (Unless r Refusal.Plan (Holds (theory net) f)
-    (OfSheet r (theory net) f (sheetOf (net .places) (f .query) sheet))))
+    (OfSheet r (theory net) (f .query) (stated f) (sheetOf (net .places) (f .query) sheet))))
 
 -- the plan file: what it says, and 11 where the bytes say nothing
 pub record OfFiles (r : Answer) (net : NetworkFile) (plan sheet : List ℕ) : Type 0 where

@@ -2,8 +2,10 @@
 use Prim.Native.Nat.{ℕ, _+_, _*_, _≤_, _<_}
 use mathlib.Core.Path.{_≡_}
 use mathlib.Core.Bool.{Bool, true, false}
+use mathlib.Core.Option.{some}
 use mathlib.Core.List.{List, []}
 use lib.ListN.{length, getD}
+use Rattle.leg.specs.declared.Leg.{Leg}
 use Rattle.network.specs.Reading.{Found, refused, found}
 use Rattle.network.specs.Network.{Network as NetworkFile, ofFile}
 use Rattle.network.specs.declared.NetworkFound.{NetworkFound}
@@ -12,11 +14,16 @@ use Rattle.network.specs.Answers.{networkFound}
 use Rattle.chart.specs.Chart.{Chart}
 use Rattle.plan.specs.Network.{Minute, Cents, Network, Query}
 use Rattle.plan.specs.Plan.{Ride, arrives}
-use Rattle.plan.specs.Sheet.{Step, Steps}
-use Rattle.rule_b.specs.Rule.{Is}
-use Rattle.sheet_file.specs.InPlace.{Indexed}
+use Rattle.plan.specs.Legs.{noLeg}
+use Rattle.plan.specs.Sheet.{Step, value}
+use Rattle.plan_file.specs.declared.Query.{Query as QueryStruct}
+use Rattle.rule_b.specs.Rule.{Is, RuleB}
+use Rattle.rule_b.specs.Cursor.{PlaceAsked}
+use Rattle.sheet_file.specs.InPlace.{placeAt}
+use Rattle.sheet_file.specs.Window.{window}
 use Rattle.gate.specs.declared.State.{State}
-use Rattle.gate.specs.Gate.{theory}
+use Rattle.sheet_file.specs.SheetFile.{sheetOf}
+use Rattle.gate.specs.Gate.{theory, Known}
 
 -- the network that bytes stand for, where they do
 abbrev pub netOf : Found NetworkFile → NetworkFile
@@ -48,7 +55,34 @@ pub record Rode (N : Network) (r : Ride) (old new : State) : Type 0 where
   pub cost : new .on ≡ true → new .cost ≡ old .cost + N .toll (r .leg) (r .leave)
   pub near : new .cost ≤ old .cost + 65535
 
--- a sheet that was found in bytes
-pub record Sheet-file (s : List ℕ) (places : ℕ) (q : Query) (index : List ℕ) (sheet : List (List Step)) : Type 0 where
-  pub indexed : Indexed s places index sheet
-  pub steps : (p : ℕ) → p < places → Steps q (getD sheet p [])
+-- a query that the gate goes on with
+pub record Asked (s : List ℕ) (q : Query) : Type 0 where
+  pub known : Known (netAt s .places) q
+  pub window : q .earliest ≤ q .latest
+
+-- the sheet that bytes stand for, for the network of other bytes
+abbrev pub sheetAt : List ℕ → List ℕ → Query → Found (List (List Step))
+sheetAt net s q = sheetOf (netAt net .places) q s
+
+-- every place's steps are as described and lie in the file, from the bit that the index gives
+pub record Placed (s : List ℕ) (places : ℕ) (q : Query) (index : List ℕ) : Type 0 where
+  pub few : places ≤ 64
+  pub each : (p : ℕ) → p < places → PlaceAsked s (getD index p 0) q
+  pub end : q .latest ≤ 2879
+
+-- leg k of the network that bytes stand for
+abbrev pub legOf : List ℕ → ℕ → Leg
+legOf s k = getD (netAt s .legs) k noLeg
+
+-- rule (b) for leg k, over the steps where they stand
+abbrev pub RuleOf : List ℕ → List ℕ → List ℕ → Minute → ℕ → Type 0
+RuleOf net s index latest k =
+    RuleB latest (legOf net k) (placeAt s (getD index (legOf net k .from) 0)) (placeAt s (getD index (legOf net k .to) 0))
+
+-- both rules, so
+pub record Ruled (net s index : List ℕ) (legs : ℕ) (q : Query) : Type 0 where
+  pub a : value (placeAt s (getD index (q .start) 0)) (q .earliest) ≡ some 0
+  pub b : (k : ℕ) → k < legs → RuleOf net s index (q .latest) k
+
+abbrev pub windowOf : QueryStruct → Query
+windowOf a = window (a .earliest .0) (a .latest .0)

@@ -8,11 +8,17 @@ ghost use Rattle.network.specs.Network.{ofFile};
 ghost use Rattle.network.specs.Answers.{networkFound};
 ghost use Rattle.plan_file.specs.PlanFile.{queryOf};
 ghost use Rattle.plan_reader.specs.InPlace.{rideAt, fileAt, Told, Says, Headed};
+ghost use mathlib.Core.Option.{some};
+ghost use Rattle.plan.specs.Sheet.{value};
+ghost use Rattle.sheet_file.specs.InPlace.{placeAt};
+ghost use Rattle.sheet_file.specs.Window.{window};
 ghost use Rattle.rule_b.specs.Rule.{Is};
-ghost use Rattle.gate.specs.Gate.{Known, Holds, OfPlan, OfFiles, GateSays};
-ghost use Rattle.gate.specs.Parts.{netAt, theoryAt, Known-file, Rode};
+ghost use Rattle.rule_b.specs.Cursor.{PlaceAsked};
+ghost use Rattle.gate.specs.Gate.{Known, Holds, statedCost, OfSheet, OfPlan, OfFiles, GateSays};
+ghost use Rattle.gate.specs.Parts.{netAt, theoryAt, sheetAt, windowOf, Known-file, Rode, Asked, Placed, RuleOf, Ruled};
 use answer::Answer;
 use answer::Refusal;
+use leg::Cents;
 use leg::Minute;
 use network::NetworkFound;
 use network::Size;
@@ -79,5 +85,181 @@ fn ride(net: &[u8], size: Size, chart: &[u32; 512], plan: &[u8], k: usize, state
         place: leg.to,
         time: departure + leg.time.0,
         cost: state.cost + toll.0 as u64,
+    }
+}
+
+// Is the plan feasible, at the cost that it states? "None" states nothing.
+fn plan_holds(net: &[u8], size: Size, chart: &[u32; 512], plan: &[u8], read: Plan) -> bool
+    requires { ⌜ Known-file (now net) size (now chart) × Says (now plan) (fileAt (now plan)) × Headed (now plan) read ⌝ }
+    ensures { λ r. ⌜ Is r (Holds (theoryAt (now (net .entry))) (fileAt (now (plan .entry)))) ⌝ }
+{
+    if read.verdict == 0 {
+        return true;
+    }
+    let query = read.query;
+    let legs = read.legs;
+    let mut state = State {
+        on: true,
+        place: query.start,
+        time: query.earliest.0,
+        cost: 0,
+    };
+    let mut k = 0;
+    while k < legs {
+        state = ride(net, size, chart, plan, k, state);
+        if !state.on {
+            return false;
+        }
+        k += 1;
+    }
+    if state.place != query.end {
+        return false;
+    }
+    if query.latest.0 < state.time {
+        return false;
+    }
+    state.cost == read.cost.0 as u64
+}
+
+// Rule (a): does the place have the value 0 at earliest?
+fn starts(sheet: &[u8], place: u32, earliest: u32, latest: u32) -> bool
+    requires { ⌜ PlaceAsked (now sheet) place (window earliest latest) × (earliest < 4096) ⌝ }
+    ensures { λ r. ⌜ Is r (value (placeAt (now (sheet .entry)) place) earliest ≡ some 0) ⌝ }
+{
+    let first = rule_b::value_at(sheet, place, earliest, earliest, latest);
+    if !first.has {
+        return false;
+    }
+    first.price == 0
+}
+
+// Rule (b) for leg k.
+fn leg_rules(
+    net: &[u8],
+    size: Size,
+    chart: &[u32; 512],
+    sheet: &[u8],
+    index: &[u32; 64],
+    k: usize,
+    earliest: u32,
+    latest: u32,
+) -> bool
+    requires { ⌜ Known-file (now net) size (now chart) × Placed (now sheet) (size .places) (window earliest latest) (now index) × (k < size .legs) ⌝ }
+    ensures { λ r. ⌜ Is r (RuleOf (now (net .entry)) (now (sheet .entry)) (now (index .entry)) latest k) ⌝ }
+{
+    let leg = chart::leg_at(net, size.places, chart[k]);
+    let from = leg.from as usize;
+    let to = leg.to as usize;
+    rule_b::leg_obeys(sheet, leg, index[from], index[to], earliest, latest)
+}
+
+// Both rules.
+fn obeys(
+    net: &[u8],
+    size: Size,
+    chart: &[u32; 512],
+    sheet: &[u8],
+    index: &[u32; 64],
+    query: Query,
+) -> bool
+    requires { ⌜ Known-file (now net) size (now chart) × Placed (now sheet) (size .places) (windowOf query) (now index) × (query .start < size .places) × (query .earliest .0 ≤ 2879) ⌝ }
+    ensures { λ r. ⌜ Is r (Ruled (now (net .entry)) (now (sheet .entry)) (now (index .entry)) (size .legs) (queryOf query)) ⌝ }
+{
+    let earliest = query.earliest.0;
+    let latest = query.latest.0;
+    let start = query.start as usize;
+    if !starts(sheet, index[start], earliest, latest) {
+        return false;
+    }
+    let legs = size.legs;
+    let mut k = 0;
+    while k < legs {
+        if !leg_rules(net, size, chart, sheet, index, k, earliest, latest) {
+            return false;
+        }
+        k += 1;
+    }
+    true
+}
+
+// Is the place's value at latest the stated cost, or is there none for "none"?
+fn tight(sheet: &[u8], place: u32, earliest: u32, latest: u32, verdict: u32, cost: Cents) -> bool
+    requires { ⌜ PlaceAsked (now sheet) place (window earliest latest) × (latest < 4096) ⌝ }
+    ensures { λ r. ⌜ Is r (value (placeAt (now (sheet .entry)) place) latest ≡ statedCost verdict (cost .0)) ⌝ }
+{
+    let last = rule_b::value_at(sheet, place, latest, earliest, latest);
+    if verdict == 0 {
+        return !last.has;
+    }
+    if !last.has {
+        return false;
+    }
+    last.price == cost.0
+}
+
+// The sheet, after the plan.
+fn judge_sheet(net: &[u8], size: Size, chart: &[u32; 512], sheet: &[u8], read: Plan) -> Answer
+    requires { ⌜ Known-file (now net) size (now chart) × Asked (now net) (queryOf (read .query)) ⌝ }
+    ensures { λ r. ⌜ OfSheet r (theoryAt (now (net .entry))) (queryOf (read .query)) (statedCost (read .verdict) (read .cost .0)) (sheetAt (now (net .entry)) (now (sheet .entry)) (queryOf (read .query))) ⌝ }
+{
+    let query = read.query;
+    let earliest = query.earliest.0;
+    let latest = query.latest.0;
+    let found = sheet_file::sheet_from(sheet, size.places, earliest, latest);
+    if !found.sound {
+        return Answer::Refused(Refusal::SheetFile);
+    }
+    let index = found.index;
+    if !obeys(net, size, chart, sheet, &index, query) {
+        return Answer::Refused(Refusal::Rules);
+    }
+    let end = query.end as usize;
+    let cost = read.cost;
+    if !tight(sheet, index[end], earliest, latest, read.verdict, cost) {
+        return Answer::Refused(Refusal::Loose);
+    }
+    Answer::Done(0)
+}
+
+// The query and the plan, then the sheet.
+fn judge_plan(net: &[u8], size: Size, sheet: &[u8], plan: &[u8], read: Plan) -> Answer
+    requires { ⌜ (networkFound (ofFile (now net)) ≡ NetworkFound.Sound size) × Says (now plan) (fileAt (now plan)) × Headed (now plan) read ⌝ }
+    ensures { λ r. ⌜ OfPlan r (netAt (now (net .entry))) (fileAt (now (plan .entry))) (now (sheet .entry)) ⌝ }
+{
+    let query = read.query;
+    if !known(size.places, query) {
+        return Answer::Refused(Refusal::Query);
+    }
+    if query.latest.0 < query.earliest.0 {
+        return Answer::Refused(Refusal::Window);
+    }
+    let chart = chart::chart(net, size);
+    if !plan_holds(net, size, &chart, plan, read) {
+        return Answer::Refused(Refusal::Plan);
+    }
+    judge_sheet(net, size, &chart, sheet, read)
+}
+
+// The plan file, after the network.
+fn judge_files(net: &[u8], size: Size, plan: &[u8], sheet: &[u8]) -> Answer
+    requires { ⌜ networkFound (ofFile (now net)) ≡ NetworkFound.Sound size ⌝ }
+    ensures { λ r. ⌜ OfFiles r (netAt (now (net .entry))) (now (plan .entry)) (now (sheet .entry)) ⌝ }
+{
+    let read = plan_reader::plan_from(plan);
+    if !read.sound {
+        return Answer::Refused(Refusal::PlanFile);
+    }
+    judge_plan(net, size, sheet, plan, read)
+}
+
+// The gate: is the plan feasible at the cost that it states, and does the sheet prove that no plan costs less?
+pub fn gate(net: &[u8], plan: &[u8], sheet: &[u8]) -> Answer
+    ensures { λ r. ⌜ GateSays (now (net .entry)) (now (plan .entry)) (now (sheet .entry)) r ⌝ }
+{
+    let no_list = [0u32; 1];
+    let found = network::network_from(Origin::File, net, &no_list);
+    match found {
+        NetworkFound::Refused(why) => Answer::Refused(why),
+        NetworkFound::Sound(size) => judge_files(net, size, plan, sheet),
     }
 }

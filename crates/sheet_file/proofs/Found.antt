@@ -18,6 +18,7 @@ use Rattle.plan.specs.Network.{Minute, Cents, Query}
 use Rattle.plan.specs.Sheet.{Step, StepsAfter, Steps}
 use Rattle.sheet_file.specs.declared.SheetFound.{SheetFound}
 use Rattle.sheet_file.specs.SheetFile.{step, steps, onePlace, places, top, body, sheetOf, anyCost}
+use Rattle.sheet_file.specs.Window.{window}
 use Rattle.sheet_file.specs.InPlace.{placeAt, countAt, Nothing, Indexed, Judged}
 use Rattle.sheet_file.proofs.Laws.{nothing-next, prepend, prepend-twice, prepend-nothing, next-prepend, prepend-none, nil}
 
@@ -203,3 +204,55 @@ module _ (s : List ℕ) (q : Query) (n : ℕ) (r : SheetFound) where
         last : (b : Bool) → r .sound ≡ b → Judged s n (next (pick b (found (tt {0}) end) (refused Tail)) (λ _ at′. found sheet at′)) r
         last true e = (e, i)
         last false e = e
+
+-- ---- what is found, for whoever reads on
+
+-- of the query only the window counts
+module _ (q : Query) (src : Source) where
+  places-window : (n at : ℕ) → places n q src at ≡ places n (window (q .earliest) (q .latest)) src at
+  unfolding places
+  places-window zero at = refl
+  places-window (suc n) at = λ i. next (onePlace q src at) (λ xs at₁. next (places-window n at₁ i) (λ rest at₂. found (xs ∷ rest) at₂))
+
+pub sheet-window : (n : ℕ) (q : Query) (s : List ℕ) → sheetOf n q s ≡ sheetOf n (window (q .earliest) (q .latest)) s
+sheet-window n q s =
+    λ i.
+    next (top n (fileOf s) 0)
+    (λ _ at.
+    next (places-window q (fileOf s) n at i)
+    (λ all at₁. next (pick (fileOf s .ends at₁) (found (tt {0}) at₁) (refused Tail)) (λ _ at₂. found all at₂)))
+
+after-window : (q : Query) (x : Step) (xs : List Step) → StepsAfter q x xs → StepsAfter (window (q .earliest) (q .latest)) x xs
+after-window q x [] h = h
+after-window q x (y ∷ ys) h = (h .0, h .1, after-window q y ys (h .2))
+
+pub steps-window : (q : Query) (xs : List Step) → Steps q xs → Steps (window (q .earliest) (q .latest)) xs
+steps-window q [] h = tt
+steps-window q (x ∷ xs) h = (h .0, after-window q x xs (h .1))
+
+steps-cons : (q : Query) (n : ℕ) (xs : List Step) (rest : List (List Step)) → Steps q xs → ((p : ℕ) → p < n → Steps q (getD rest p []))
+    → (p : ℕ) → p < suc n → Steps q (getD (xs ∷ rest) p [])
+steps-cons q n xs rest st r zero h = st
+steps-cons q n xs rest st r (suc p) h = r p (omega arith)
+
+places-steps : (s : List ℕ) (q : Query) (n at : ℕ) (sheet : List (List Step)) (end : ℕ) → places n q (fileOf s) at ≡ found sheet end
+    → (p : ℕ) → p < n → Steps q (getD sheet p [])
+unfolding places
+places-steps s q zero at sheet end e p h = absurd (omega arith)
+places-steps s q (suc n) at sheet end e p h =
+    let one = inner-step sheet end (onePlace q (fileOf s) at) _ e in
+    let more = inner-step sheet end (places n q (fileOf s) (one .1)) _ (one .3) in
+    let all : one .0 ∷ more .0 ≡ sheet = cc (more .3) in
+    subst (λ (l : List (List Step)). Steps q (getD l p [])) all
+    (steps-cons q n (one .0) (more .0) (place-inv s at q (one .0) (one .1) (one .2) .steps)
+    (places-steps s q n (one .1) (more .0) (more .1) (more .2)) p h)
+
+-- EACH PLACE OF A FOUND SHEET HAS STEPS AS DESCRIBED
+pub sheet-steps : (n : ℕ) (q : Query) (s : List ℕ) (sheet : List (List Step)) (end : ℕ) → sheetOf n q s ≡ found sheet end
+    → (p : ℕ) → p < n → Steps q (getD sheet p [])
+sheet-steps n q s sheet end e =
+    let t = inner-step sheet end (top n (fileOf s) 0) (λ _ at. body n q (fileOf s) at) e in
+    let l = inner-step sheet end (places n q (fileOf s) (t .1)) _ (t .3) in
+    let c = check-step sheet end (fileOf s .ends (l .1)) Tail (l .1) _ (l .3) in
+    let same : l .0 ≡ sheet = cc (c .1) in
+    subst (λ (x : List (List Step)). (p : ℕ) → p < n → Steps q (getD x p [])) same (places-steps s q n (t .1) (l .0) (l .1) (l .2))

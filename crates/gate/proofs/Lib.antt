@@ -1,0 +1,4 @@
+pub mod Net
+pub mod Rides
+pub mod Sheets
+pub mod Answers
