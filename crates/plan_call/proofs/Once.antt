@@ -50,7 +50,7 @@ answered-once N q out x y a b h k =
     )
 
 -- the table
-table-once : (N : Network) (q : Query) → Askable N q → (table x y : List ℕ) → Filled N q table x → Filled N q table y → x ≡ y
+pub table-once : (N : Network) (q : Query) → Askable N q → (table x y : List ℕ) → Filled N q table x → Filled N q table y → x ≡ y
 table-once N q asked table x y h k = ext-getD 0 x y (h .long ∙ sym (k .long)) (λ i below. at i (decLt i (N .places * width q)))
   where
     at : (i : ℕ) → Dec (i < N .places * width q) → getD x i 0 ≡ getD y i 0

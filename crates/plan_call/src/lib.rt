@@ -29,7 +29,7 @@ pub enum Judgement {
 const NO_PLAN: u32 = 4294967295;
 
 // How many cells a table has.
-fn area(places: u32, width: u32) -> usize
+pub fn area(places: u32, width: u32) -> usize
     requires { ⌜ (places ≤ 64) × (width ≤ 2880) ⌝ }
     ensures { λ r. ⌜ (r ≡ places * width) × (r ≤ 184320) ⌝ }
 {
@@ -37,7 +37,7 @@ fn area(places: u32, width: u32) -> usize
 }
 
 // 6, 7 and 8.
-fn judge(size: Size, query: Query, room: usize) -> Judgement
+pub fn judge(size: Size, query: Query, room: usize) -> Judgement
     requires { ⌜ size .places ≤ 64 ⌝ }
     ensures { λ r. ⌜ r ≡ judgement (size .places) (queryOf query) room ⌝ }
 {
