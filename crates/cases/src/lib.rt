@@ -2,6 +2,7 @@
 // Each function here is proved to be safe and to end; what the calls answer is compared as the program runs.
 ghost use Prim.Native.Nat.{_≤_};
 ghost use lib.ListN.{length};
+use terminal::Reply;
 
 // Where the next case begins, and whether this one came out as stored.
 pub struct Case {
@@ -170,25 +171,36 @@ fn write_case(s: &[u8], at: usize, list: &mut [u32], out: &mut [u8]) -> Case {
     Case { next, right }
 }
 
-// A case of the plan call: the file; start, end, earliest, latest; number, length; the table and the output afterwards.
-fn plan_right(s: &[u8], at: usize, table: &mut [u32], out: &mut [u8]) -> bool {
+// A case of the plan call or the sheet call: the file; start, end, earliest, latest; number, length; the table and the output afterwards.
+fn plan_right(s: &[u8], call: u8, at: usize, table: &mut [u32], out: &mut [u8]) -> bool {
     fill_numbers(table);
     fill_bytes(out);
+    let reply = ask(s, call, at, table, out);
+    answer_right(
+        s,
+        after_query(s, at),
+        reply.number,
+        reply.length,
+        table,
+        out,
+    )
+}
+
+// The query of a case, put to its call.
+fn ask(s: &[u8], call: u8, at: usize, table: &mut [u32], out: &mut [u8]) -> Reply {
     let start_at = after_bytes(s, at);
     let end_at = after_number(s, start_at);
     let earliest_at = after_number(s, end_at);
     let latest_at = after_number(s, earliest_at);
-    let reply_at = after_number(s, latest_at);
-    let reply = terminal::haul_plan(
-        bytes_at(s, at),
-        number(s, start_at),
-        number(s, end_at),
-        number(s, earliest_at),
-        number(s, latest_at),
-        table,
-        out,
-    );
-    answer_right(s, reply_at, reply.number, reply.length, table, out)
+    let net = bytes_at(s, at);
+    let start = number(s, start_at);
+    let end = number(s, end_at);
+    let earliest = number(s, earliest_at);
+    let latest = number(s, latest_at);
+    if call == 3 {
+        return terminal::haul_plan(net, start, end, earliest, latest, table, out);
+    }
+    terminal::haul_sheet(net, start, end, earliest, latest, table, out)
 }
 
 // The number, the length and both lent buffers are as stored.
@@ -222,7 +234,7 @@ fn after_query(s: &[u8], at: usize) -> usize {
     )
 }
 
-fn plan_case(s: &[u8], at: usize, list: &mut [u32], out: &mut [u8]) -> Case {
+fn plan_case(s: &[u8], call: u8, at: usize, list: &mut [u32], out: &mut [u8]) -> Case {
     let table_at = after_number(s, after_number(s, after_query(s, at)));
     let out_at = after_numbers(s, table_at);
     let next = after_bytes(s, out_at);
@@ -234,7 +246,7 @@ fn plan_case(s: &[u8], at: usize, list: &mut [u32], out: &mut [u8]) -> Case {
     if out.len() < room {
         return Case { next, right: false };
     }
-    let right = plan_right(s, at, &mut list[..cells], &mut out[..room]);
+    let right = plan_right(s, call, at, &mut list[..cells], &mut out[..room]);
     Case { next, right }
 }
 
@@ -266,7 +278,10 @@ fn one_case(s: &[u8], at: usize, list: &mut [u32], out: &mut [u8]) -> Case {
         return write_case(s, call + 1, list, out);
     }
     if s[call] == 3 {
-        return plan_case(s, call + 1, list, out);
+        return plan_case(s, 3, call + 1, list, out);
+    }
+    if s[call] == 4 {
+        return plan_case(s, 4, call + 1, list, out);
     }
     if s[call] == 5 {
         return gate_case(s, call + 1);

@@ -26,8 +26,10 @@ fn main() {
     run_file(b"read.cases", &mut list, &mut out);
     run_file(b"write.cases", &mut list, &mut out);
     run_file(b"plan.cases", &mut list, &mut out);
+    run_file(b"sheet.cases", &mut list, &mut out);
     run_file(b"gate.cases", &mut list, &mut out);
     run_file(b"trial.cases", &mut list, &mut out);
+    run_file(b"source.cases", &mut list, &mut out);
     run_file(b"read_largest.cases", &mut list, &mut out);
     run_file(b"write_largest.cases", &mut list, &mut out);
 }

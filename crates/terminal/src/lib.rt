@@ -3,6 +3,7 @@ ghost use mathlib.Core.Path.{_≡_};
 ghost use Rattle.read_call.specs.Read.{Reads};
 ghost use Rattle.write_call.specs.Write.{Writes};
 ghost use Rattle.plan_call.specs.Call.{asking, Plans};
+ghost use Rattle.sheet_call.specs.Sheet.{Sheets};
 ghost use Rattle.gate.specs.Gate.{GateSays};
 ghost use Rattle.terminal.specs.Reply.{Replies, PlanReplies, Says};
 
@@ -51,6 +52,26 @@ pub extern "C" fn haul_plan(
     ensures { λ r. ⌜ PlanReplies (Plans (now (net .entry)) (asking start end earliest latest) (now (table .entry)) (now (table .exit)) (now (out .entry)) (now (out .exit))) r ⌝ }
 {
     let answer = plan_call::plan(net, start, end, earliest, latest, table, out);
+    Reply {
+        number: answer.number(),
+        length: answer.length(),
+    }
+}
+
+// The bound sheet of a query, with the same table.
+#[no_mangle]
+pub extern "C" fn haul_sheet(
+    net: &[u8],
+    start: u32,
+    end: u32,
+    earliest: u32,
+    latest: u32,
+    table: &mut [u32],
+    out: &mut [u8],
+) -> Reply
+    ensures { λ r. ⌜ PlanReplies (Sheets (now (net .entry)) (asking start end earliest latest) (now (table .entry)) (now (table .exit)) (now (out .entry)) (now (out .exit))) r ⌝ }
+{
+    let answer = sheet_call::sheet(net, start, end, earliest, latest, table, out);
     Reply {
         number: answer.number(),
         length: answer.length(),
