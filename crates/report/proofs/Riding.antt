@@ -2,7 +2,7 @@
 use Prim.Native.Nat.{ℕ, zero, suc, _+_, _-_, _*_, _≤_, _<_}
 use native.Mathlib.Omega.{arith}
 use mathlib.Core.Path.{_≡_, refl, sym, ap, _∙_, subst}
-use mathlib.Core.List.{List, [], _∷_, _++_}
+use mathlib.Core.List.{List, [], _∷_}
 use lib.ListN.{length, getD}
 use Rattle.bits.specs.Field.{field}
 use Rattle.bits.specs.Packed.{Holds}
@@ -20,7 +20,7 @@ use Rattle.plan_file.proofs.Files.{rides-last}
 use Rattle.walk.specs.Walk.{netOf, LegStands}
 use Rattle.walk.proofs.Nets.{legs-are, few-legs, leg-stands, has-leg}
 use Rattle.text.specs.Text.{Adds}
-use Rattle.text.proofs.Adding.{adds-none, adds-then}
+use Rattle.text.proofs.Adding.{adds-then}
 use Rattle.report.specs.Rides.{ridesIn, Ridden}
 use Rattle.report.specs.Report.{legText, ridesText}
 

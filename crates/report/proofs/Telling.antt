@@ -5,8 +5,8 @@ use borrow.Author.Tests.{lt-ltb, le-ltb, le-leb, eq-eqb, ne-eqb}
 use mathlib.Core.Path.{_≡_, refl, sym, ap, _∙_, subst}
 use mathlib.Core.Logic.{_≢_, _⊎_, inl, inr}
 use mathlib.Core.Bool.{Bool, true, false, cond}
-use mathlib.Core.List.{List, [], _∷_, _++_}
-use lib.Dec.{ltb, leb, eqb}
+use mathlib.Core.List.{List, _∷_, _++_}
+use lib.Dec.{leb, eqb}
 use lib.ListN.{length, take, drop, length-append, length-drop}
 use lib.Seq.{take-all}
 use Rattle.answer.specs.declared.Refusal.{Refusal}
@@ -24,7 +24,7 @@ use Rattle.plan.specs.Network.{Network, Query, Askable}
 use Rattle.plan.specs.Plan.{Ride, arrival, cost, Runs, Feasible}
 use Rattle.plan.specs.Tie.{Named}
 use Rattle.plan.proofs.Named.{named-fits}
-use Rattle.plan_file.specs.PlanFile.{PlanFile, rideOf, planBytes, planFile, noneFile, FileOf}
+use Rattle.plan_file.specs.PlanFile.{PlanFile, rideOf, planBytes, planFile, FileOf}
 use Rattle.plan_file.proofs.Files.{plan-size, plan-head, plan-rides}
 use Rattle.walk.specs.Walk.{netOf}
 use Rattle.plan_call.specs.Judge.{Judged, refuse, serve, judged}
@@ -32,7 +32,7 @@ use Rattle.plan_call.specs.Call.{Right, plan, none, Output, Answered, Comes, Pl
 use Rattle.plan_call.proofs.Judging.{judged-refused, comes-to}
 use Rattle.text.specs.Text.{Adds}
 use Rattle.report.specs.Rides.{ridesIn, Ridden}
-use Rattle.report.specs.Report.{answerText, costText, arriveText, ridesText, planText, Shows, shown, nothing, Prints, latestOf, queryIn, Whole, Reports}
+use Rattle.report.specs.Report.{answerText, costText, arriveText, ridesText, Shows, shown, nothing, Prints, latestOf, queryIn, Whole, Reports}
 use Rattle.report.proofs.Riding.{rides-are}
 
 -- the rides in the front of more bytes

@@ -40,7 +40,14 @@ fn leg_line(text: &mut [u8], at: usize, leg: u32, departure: u32, wait: u32) -> 
 }
 
 // When the first `count` rides of a plan file have arrived: at earliest where there are none.
-fn arrival_after(net: &[u8], chart: &[u32; 512], size: Size, plan: &[u8], query: Query, count: usize) -> u32
+fn arrival_after(
+    net: &[u8],
+    chart: &[u32; 512],
+    size: Size,
+    plan: &[u8],
+    query: Query,
+    count: usize,
+) -> u32
     requires { ⌜ Chart (now net) (now chart) × Ridden (now net) size (now plan) (queryOf query) count ⌝ }
     ensures { λ r. ⌜ r ≡ arrival (netOf (now (net .entry))) (queryOf query) (ridesIn (now (plan .entry)) count) ⌝ }
 {
@@ -144,8 +151,15 @@ fn net_text(net: &[u8], query: Query, table: &mut [u32], plan: &mut [u8], text: 
         NetworkFound::Sound(size) => {
             let earliest = query.earliest;
             let latest = query.latest;
-            let answer =
-                plan_call::plan(net, query.start, query.end, earliest.0, latest.0, table, plan);
+            let answer = plan_call::plan(
+                net,
+                query.start,
+                query.end,
+                earliest.0,
+                latest.0,
+                table,
+                plan,
+            );
             match answer {
                 PlanAnswer::Done(_) => plan_lines(net, size, plan, query, text),
                 PlanAnswer::NoPlan(_) => answer_line(text, 10),

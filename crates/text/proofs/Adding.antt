@@ -1,5 +1,5 @@
 -- Laws of added text: none, one byte more, and one text behind another.
-use Prim.Native.Nat.{ℕ, zero, suc, _+_, _-_, _/_, _%_, _≤_, _<_}
+use Prim.Native.Nat.{ℕ, zero, suc, _+_, _/_, _%_, _≤_, _<_}
 use native.Mathlib.Omega.{arith}
 use native.Mathlib.Nat.{add-zero}
 use borrow.Author.Tests.{lt-ltb, le-ltb}
@@ -9,7 +9,7 @@ use mathlib.Core.List.{List, [], _∷_, _++_, append-assoc, append-nil}
 use lib.Dec.{ltb}
 use lib.ListN.{length, take, getD, set, length-set, length-append}
 use lib.Seq.{take-suc, take-suc-set, take-length}
-use Rattle.text.specs.Text.{decimal, decimalOf, item, line, Adds}
+use Rattle.text.specs.Text.{decimal, item, line, Adds}
 
 -- nothing
 pub adds-none : (s : List ℕ) (at : ℕ) → at ≤ length s → Adds s s at at []

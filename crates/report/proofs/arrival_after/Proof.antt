@@ -1,77 +1,53 @@
-use Prim.Native.Nat.{_+_, _-_, _*_, suc}
+use Prim.Native.Nat.{_-_}
 use Rattle.plan_file.specs.PlanFile.{queryOf}
 use Rattle.walk.specs.Walk.{netOf}
-use Rattle.text.specs.Text.{Adds}
-use Rattle.text.proofs.Adding.{adds-none, adds-then, item-long, line-long}
-use Rattle.report.specs.Rides.{ridesIn}
-use Rattle.report.specs.Report.{legWord, leaveWord, waitWord, ridesText}
-use Rattle.report.proofs.Riding.{ridden-less, last-ride, leg-in-chart, stands-near, small-sum, arrives-then, arrives-first, ride-said, lines-more, lines-all}
-use Prim.Native.Nat.{ℕ, _+_, _-_, _*_, _≤_, _<_}
+use Rattle.report.proofs.Riding.{leg-in-chart, stands-near, small-sum, arrives-then, arrives-first}
+use Prim.Native.Nat.{_-_}
 use native.Mathlib.Omega.{arith}
-use mathlib.Core.Path.{_≡_, refl, sym, ap, _∙_}
-use mathlib.Core.Logic.{⊎-elim}
-use lib.ListN.{length, getD, set, length-set}
 use borrow.Author.Needs.{needs}
 use Rattle.report.proofs.arrival_after.Statement.{statement}
 use Rattle.report.proofs.arrival_after.Tie as tie
-use Rattle.report.proofs.arrival_after.Reads as reads
-use Rattle.report.proofs.arrival_after.Lts as lts
-use Rattle.bits.proofs.take.Reads as take-reads
-use Rattle.chart.proofs.leg_at.Reads as leg-at-reads
 
--- src/lib.rt:49:9
 returns : tie.Need-returns
 returns c =
     let a = c .before .before .before .before .args in arrives-first (netOf (a .net .now)) (queryOf (a .query)) (a .plan .now) (a .count) (c .if1 .taken)
 
--- src/lib.rt:51:25
 sub-at : tie.Need-sub-at
 sub-at c = search needs
 
--- src/lib.rt:51:19
 mul-at : tie.Need-mul-at
 mul-at c = search needs
 
--- src/lib.rt:51:14
 add-at : tie.Need-add-at
 add-at c = search needs
 
--- src/lib.rt:52:15
 take-requires : tie.Need-take-requires
 take-requires c κs = search needs
 
--- src/lib.rt:52:15
 cast-leg : tie.Need-cast-leg
 cast-leg c = search needs
 
--- src/lib.rt:53:38
 add-take : tie.Need-add-take
 add-take c = search needs
 
--- src/lib.rt:53:9
 take-requires-2 : tie.Need-take-requires-2
 take-requires-2 c κs = search needs
 
--- src/lib.rt:54:50
 mul-leg-at : tie.Need-mul-leg-at
 mul-leg-at c = search needs
 
--- src/lib.rt:54:50
 element-copy-out-leg-at : tie.Need-element-copy-out-leg-at
 element-copy-out-leg-at c =
     omega (arith, c .before .take .ensures, leg-in-chart (c .before .before .before .before .before .before .args .net .now) (c .before .before .before .before .before .before .args .size) (c .before .before .before .before .before .before .args .plan .now) (queryOf (c .before .before .before .before .before .before .args .query)) (c .before .before .before .before .before .before .args .count) (c .before .before .before .before .before .before .args .count - 1) (omega (arith, c .before .before .if1 .left)) (c .before .before .before .before .before .before .pre .1))
 
--- src/lib.rt:54:9
 leg-at-requires : tie.Need-leg-at-requires
 leg-at-requires c κs =
     stands-near (c .before .before .before .before .before .before .before .args .net .now) (c .before .before .before .before .before .before .before .args .size) (c .before .before .before .before .before .before .before .args .plan .now) (queryOf (c .before .before .before .before .before .before .before .args .query)) (c .before .before .before .before .before .before .before .args .chart .now) (c .before .before .before .before .before .before .before .pre .0) (c .before .before .before .before .before .before .before .args .count) (c .before .before .before .before .before .before .before .args .count - 1) (omega (arith, c .before .before .before .if1 .left)) (c .before .before .before .before .before .before .before .pre .1) _ (c .before .before .take .ensures)
 
--- src/lib.rt:56:5
 add-result : tie.Need-add-result
 add-result c =
     omega (arith, small-sum (c .before .before .before .before .before .before .before .before .before .before .args .net .now) (c .before .before .before .before .before .before .before .before .before .before .args .size) (c .before .before .before .before .before .before .before .before .before .before .args .plan .now) (queryOf (c .before .before .before .before .before .before .before .before .before .before .args .query)) (c .before .before .before .before .before .before .before .before .before .before .args .chart .now) (c .before .before .before .before .before .before .before .before .before .before .pre .0) (c .before .before .before .before .before .before .before .before .before .before .args .count) (c .before .before .before .before .before .before .before .before .before .before .args .count - 1) (omega (arith, c .before .before .before .before .before .before .if1 .left)) (c .before .before .before .before .before .before .before .before .before .before .pre .1) _ (c .before .before .before .before .before .take .ensures) _ (c .before .before .before .before .take2 .ensures) _ (c .before .before .leg-at .ensures))
 
--- src/lib.rt:43:1
 returns-2 : tie.Need-returns-2
 returns-2 c =
     arrives-then (c .before .before .before .before .before .before .before .before .before .before .args .net .now) (c .before .before .before .before .before .before .before .before .before .before .args .size) (c .before .before .before .before .before .before .before .before .before .before .args .plan .now) (queryOf (c .before .before .before .before .before .before .before .before .before .before .args .query)) (c .before .before .before .before .before .before .before .before .before .before .args .chart .now) (c .before .before .before .before .before .before .before .before .before .before .pre .0) (c .before .before .before .before .before .before .before .before .before .before .args .count) (c .before .before .before .before .before .before .before .before .before .before .args .count - 1) (omega (arith, c .before .before .before .before .before .before .if1 .left)) (c .before .before .before .before .before .before .before .before .before .before .pre .1) _ (c .before .before .before .before .before .take .ensures) _ (c .before .before .before .before .take2 .ensures) _ (c .before .before .leg-at .ensures)

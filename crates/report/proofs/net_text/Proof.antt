@@ -1,63 +1,39 @@
-use Prim.Native.Nat.{ℕ, _+_, _-_, _*_}
-use mathlib.Core.Path.{_≡_, sym, ap, _∙_, subst}
+use mathlib.Core.Path.{sym, _∙_}
 use lib.ListN.{length}
 use Rattle.network.specs.Network.{ofFile}
 use Rattle.plan_call.specs.Judge.{judged}
 use Rattle.plan_file.specs.PlanFile.{queryOf}
-use Rattle.walk.specs.Walk.{netOf}
-use Rattle.text.proofs.Adding.{adds-then, line-long}
-use Rattle.report.specs.Rides.{Ridden}
-use Rattle.report.specs.Report.{answerWord, costWord, arriveWord, latestOf}
-use Rattle.report.proofs.Telling.{plan-done, plan-none, plan-refused, net-refused, told-ridden, told-text, printed, report-short, report-fill, report-net, latest-last, latest-other, plan-said}
-use Prim.Native.Nat.{ℕ, _+_, _-_, _*_, _≤_, _<_}
-use native.Mathlib.Omega.{arith}
-use mathlib.Core.Path.{_≡_, refl, sym, ap, _∙_}
-use mathlib.Core.Logic.{⊎-elim}
-use lib.ListN.{length, getD, set, length-set}
+use Rattle.report.proofs.Telling.{plan-done, plan-none, plan-refused, net-refused, told-ridden, told-text, printed}
+use mathlib.Core.Path.{sym, _∙_}
+use lib.ListN.{length}
 use borrow.Author.Needs.{needs}
 use Rattle.report.proofs.net_text.Statement.{statement}
 use Rattle.report.proofs.net_text.Tie as tie
-use Rattle.report.proofs.net_text.Reads as reads
-use Rattle.report.proofs.net_text.Lts as lts
-use Rattle.answer.proofs.Refusal.number.Reads as number-reads
-use Rattle.network.proofs.network_from.Reads as network-from-reads
-use Rattle.plan_call.proofs.plan.Reads as plan-reads
-use Rattle.report.proofs.answer_line.Reads as answer-line-reads
-use Rattle.report.proofs.plan_lines.Reads as plan-lines-reads
 
--- src/lib.rt:141:58
 slice-aggregate-network-from : tie.Need-slice-aggregate-network-from
 slice-aggregate-network-from c = search needs
 
--- src/lib.rt:141:9
 network-from-requires : tie.Need-network-from-requires
 network-from-requires c κs = search needs
 
--- src/lib.rt:143:31
 enum-known-found : tie.Need-enum-known-found
 enum-known-found c = search needs
 
--- src/lib.rt:143:57
 number-requires : tie.Need-number-requires
 number-requires c κs = search needs
 
--- src/lib.rt:143:39
 answer-line-requires : tie.Need-answer-line-requires
 answer-line-requires c κs = search needs
 
--- src/lib.rt:144:29
 enum-known-found-2 : tie.Need-enum-known-found-2
 enum-known-found-2 c = search needs
 
--- src/lib.rt:147:17
 plan-requires : tie.Need-plan-requires
 plan-requires c κs = search needs
 
--- src/lib.rt:150:62
 enum-told : tie.Need-enum-told
 enum-told c = search needs
 
--- src/lib.rt:150:40
 plan-lines-requires : tie.Need-plan-lines-requires
 plan-lines-requires c κs =
     let t = plan-done (c .before .before .before .before .before .before .before .before .before .before .before .before .before .before .before .before .before .before .before .before .before .before .args .net .now) (queryOf (c .before .before .before .before .before .before .before .before .before .before .before .before .before .before .before .before .before .before .before .before .before .before .args .query)) (c .before .before .before .before .before .before .before .before .before .before .before .before .before .before .before .before .before .before .before .before .before .before .args .table .now) _ (c .before .before .before .before .before .before .before .before .before .before .before .before .before .before .before .before .before .before .before .before .before .before .args .plan .now) _ (c .before .before .before .before .before .before .before .before .before .before .before .before .before .before .before .before .before .before .before .before .before .before .pre .0) _ _ (c .before .before .enum-told .given .1) (c .before .before .before .before .before .before .before .before .plan .ensures) in (
@@ -65,85 +41,66 @@ plan-lines-requires c κs =
       c .before .before .before .before .before .before .before .before .before .before .before .before .before .before .before .before .before .before .before .before .before .before .pre .1,
     )
 
--- src/lib.rt:151:54
 enum-told-2 : tie.Need-enum-told-2
 enum-told-2 c = search needs
 
--- src/lib.rt:151:42
 answer-line-requires-2 : tie.Need-answer-line-requires-2
 answer-line-requires-2 c κs = search needs
 
--- src/lib.rt:152:37
 enum-known-answer : tie.Need-enum-known-answer
 enum-known-answer c = search needs
 
--- src/lib.rt:152:63
 number-requires-2 : tie.Need-number-requires-2
 number-requires-2 c κs = search needs
 
--- src/lib.rt:152:45
 answer-line-requires-3 : tie.Need-answer-line-requires-3
 answer-line-requires-3 c κs = search needs
 
--- src/lib.rt:135:1
 same-length : tie.Need-same-length
 same-length c = search needs
 
--- src/lib.rt:135:1
 returns : tie.Need-returns
 returns c =
     printed (judged (ofFile (c .before .before .before .before .before .before .before .before .before .before .before .before .before .before .args .net .now)) (queryOf (c .before .before .before .before .before .before .before .before .before .before .before .before .before .before .args .query)) (length (c .before .before .before .before .before .before .before .before .before .before .before .before .before .before .args .table .now))) (queryOf (c .before .before .before .before .before .before .before .before .before .before .before .before .before .before .args .query)) _ _ _ _ (c .before .before .answer-line .ensures)
     (net-refused (c .before .before .before .before .before .before .before .before .before .before .before .before .before .before .args .net .now) (queryOf (c .before .before .before .before .before .before .before .before .before .before .before .before .before .before .args .query)) (length (c .before .before .before .before .before .before .before .before .before .before .before .before .before .before .args .table .now)) (c .before .before .before .before .before .before .found .given .0 .0) _ (c .before .before .before .number .ensures) (sym (c .before .before .before .before .before .before .before .before .network-from .ensures) ∙ c .before .before .before .before .before .before .found .given .1))
 
--- src/lib.rt:135:1
 same-length-2 : tie.Need-same-length-2
 same-length-2 c = search needs
 
--- src/lib.rt:135:1
 same-length-3 : tie.Need-same-length-3
 same-length-3 c = search needs
 
--- src/lib.rt:135:1
 same-length-4 : tie.Need-same-length-4
 same-length-4 c = search needs
 
--- src/lib.rt:135:1
 returns-2 : tie.Need-returns-2
 returns-2 c =
     let t = plan-done (c .before .before .before .before .before .before .before .before .before .before .before .before .before .before .before .before .before .before .before .before .before .before .before .before .before .args .net .now) (queryOf (c .before .before .before .before .before .before .before .before .before .before .before .before .before .before .before .before .before .before .before .before .before .before .before .before .before .args .query)) (c .before .before .before .before .before .before .before .before .before .before .before .before .before .before .before .before .before .before .before .before .before .before .before .before .before .args .table .now) _ (c .before .before .before .before .before .before .before .before .before .before .before .before .before .before .before .before .before .before .before .before .before .before .before .before .before .args .plan .now) _ (c .before .before .before .before .before .before .before .before .before .before .before .before .before .before .before .before .before .before .before .before .before .before .before .before .before .pre .0) _ _ (c .before .before .before .before .before .enum-told .given .1) (c .before .before .before .before .before .before .before .before .before .before .before .plan .ensures) in
     printed (judged (ofFile (c .before .before .before .before .before .before .before .before .before .before .before .before .before .before .before .before .before .before .before .before .before .before .before .before .before .args .net .now)) (queryOf (c .before .before .before .before .before .before .before .before .before .before .before .before .before .before .before .before .before .before .before .before .before .before .before .before .before .args .query)) (length (c .before .before .before .before .before .before .before .before .before .before .before .before .before .before .before .before .before .before .before .before .before .before .before .before .before .args .table .now))) (queryOf (c .before .before .before .before .before .before .before .before .before .before .before .before .before .before .before .before .before .before .before .before .before .before .before .before .before .args .query)) _ _ _ _ (c .before .before .plan-lines .ensures)
     (told-text (c .before .before .before .before .before .before .before .before .before .before .before .before .before .before .before .before .before .before .before .before .before .before .before .before .before .args .net .now) (queryOf (c .before .before .before .before .before .before .before .before .before .before .before .before .before .before .before .before .before .before .before .before .before .before .before .before .before .args .query)) _ (t .1) (length (c .before .before .before .before .before .before .before .before .before .before .before .before .before .before .before .before .before .before .before .before .before .before .before .before .before .args .table .now)) (t .0))
 
--- src/lib.rt:135:1
 same-length-5 : tie.Need-same-length-5
 same-length-5 c = search needs
 
--- src/lib.rt:135:1
 same-length-6 : tie.Need-same-length-6
 same-length-6 c = search needs
 
--- src/lib.rt:135:1
 same-length-7 : tie.Need-same-length-7
 same-length-7 c = search needs
 
--- src/lib.rt:135:1
 returns-3 : tie.Need-returns-3
 returns-3 c =
     printed (judged (ofFile (c .before .before .before .before .before .before .before .before .before .before .before .before .before .before .before .before .before .before .before .before .before .before .before .before .args .net .now)) (queryOf (c .before .before .before .before .before .before .before .before .before .before .before .before .before .before .before .before .before .before .before .before .before .before .before .before .args .query)) (length (c .before .before .before .before .before .before .before .before .before .before .before .before .before .before .before .before .before .before .before .before .before .before .before .before .args .table .now))) (queryOf (c .before .before .before .before .before .before .before .before .before .before .before .before .before .before .before .before .before .before .before .before .before .before .before .before .args .query)) _ _ _ _ (c .before .before .answer-line2 .ensures) (plan-none (c .before .before .before .before .before .before .before .before .before .before .before .before .before .before .before .before .before .before .before .before .before .before .before .before .args .net .now) (queryOf (c .before .before .before .before .before .before .before .before .before .before .before .before .before .before .before .before .before .before .before .before .before .before .before .before .args .query)) (c .before .before .before .before .before .before .before .before .before .before .before .before .before .before .before .before .before .before .before .before .before .before .before .before .args .table .now) _ (c .before .before .before .before .before .before .before .before .before .before .before .before .before .before .before .before .before .before .before .before .before .before .before .before .args .plan .now) _ (c .before .before .before .before .before .before .before .before .before .before .before .before .before .before .before .before .before .before .before .before .before .before .before .before .pre .0) _ _ (c .before .before .before .before .enum-told2 .given .1) (c .before .before .before .before .before .before .before .before .before .before .plan .ensures))
 
--- src/lib.rt:135:1
 same-length-8 : tie.Need-same-length-8
 same-length-8 c = search needs
 
--- src/lib.rt:135:1
 same-length-9 : tie.Need-same-length-9
 same-length-9 c = search needs
 
--- src/lib.rt:135:1
 same-length-10 : tie.Need-same-length-10
 same-length-10 c = search needs
 
--- src/lib.rt:135:1
 returns-4 : tie.Need-returns-4
 returns-4 c =
     printed (judged (ofFile (c .before .before .before .before .before .before .before .before .before .before .before .before .before .before .before .before .before .before .before .before .before .before .before .before .before .before .args .net .now)) (queryOf (c .before .before .before .before .before .before .before .before .before .before .before .before .before .before .before .before .before .before .before .before .before .before .before .before .before .before .args .query)) (length (c .before .before .before .before .before .before .before .before .before .before .before .before .before .before .before .before .before .before .before .before .before .before .before .before .before .before .args .table .now))) (queryOf (c .before .before .before .before .before .before .before .before .before .before .before .before .before .before .before .before .before .before .before .before .before .before .before .before .before .before .args .query)) _ _ _ _ (c .before .before .answer-line3 .ensures) (plan-refused (c .before .before .before .before .before .before .before .before .before .before .before .before .before .before .before .before .before .before .before .before .before .before .before .before .before .before .args .net .now) (queryOf (c .before .before .before .before .before .before .before .before .before .before .before .before .before .before .before .before .before .before .before .before .before .before .before .before .before .before .args .query)) (c .before .before .before .before .before .before .before .before .before .before .before .before .before .before .before .before .before .before .before .before .before .before .before .before .before .before .args .table .now) _ (c .before .before .before .before .before .before .before .before .before .before .before .before .before .before .before .before .before .before .before .before .before .before .before .before .before .before .args .plan .now) _ (c .before .before .before .before .before .before .before .before .before .before .before .before .before .before .before .before .before .before .before .before .before .before .before .before .before .before .pre .0) _ (c .before .before .before .before .before .before .answer .given .0 .0) _ (c .before .before .before .number2 .ensures) (c .before .before .before .before .before .before .answer .given .1) (c .before .before .before .before .before .before .before .before .before .before .before .before .plan .ensures))

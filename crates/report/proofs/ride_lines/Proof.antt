@@ -1,22 +1,16 @@
-use Prim.Native.Nat.{_+_, _-_, _*_, suc}
+use Prim.Native.Nat.{_+_, _-_, _*_}
 use Rattle.plan_file.specs.PlanFile.{queryOf}
 use Rattle.walk.specs.Walk.{netOf}
 use Rattle.text.specs.Text.{Adds}
-use Rattle.text.proofs.Adding.{adds-none, adds-then, item-long, line-long}
+use Rattle.text.proofs.Adding.{adds-none}
 use Rattle.report.specs.Rides.{ridesIn}
-use Rattle.report.specs.Report.{legWord, leaveWord, waitWord, ridesText}
-use Rattle.report.proofs.Riding.{ridden-less, last-ride, leg-in-chart, stands-near, small-sum, arrives-then, arrives-first, ride-said, lines-more, lines-all}
+use Rattle.report.specs.Report.{ridesText}
+use Rattle.report.proofs.Riding.{ridden-less, lines-more, lines-all}
 use borrow.Author.Needs.{needs}
-use Prim.Native.Nat.{ℕ, _+_, _-_, _*_, _≤_, _<_}
+use Prim.Native.Nat.{_+_, _-_, _*_, _≤_}
 use native.Mathlib.Omega.{arith}
-use mathlib.Core.Path.{_≡_, refl, sym, ap, _∙_}
-use mathlib.Core.Logic.{⊎-elim}
-use lib.ListN.{length, getD, set, length-set}
 use Rattle.report.proofs.ride_lines.Statement.{statement}
 use Rattle.report.proofs.ride_lines.Tie as tie
-use Rattle.report.proofs.ride_lines.Reads as reads
-use Rattle.report.proofs.ride_lines.Lts as lts
-use Rattle.report.proofs.ride_line.Reads as ride-line-reads
 
 abbrev Inv-loop : tie.InvT-loop
 Inv-loop net chart size plan query count text₀ at to₀ k₀ text to k = (k ≤ count) × Adds text₀ text at to (ridesText (netOf net) (queryOf query) (ridesIn plan k)) × (to ≤ at + 48 * k)
@@ -24,12 +18,10 @@ Inv-loop net chart size plan query count text₀ at to₀ k₀ text to k = (k �
 abbrev μ-loop : tie.MeasureT-loop
 μ-loop net chart size plan query count text₀ at to₀ k₀ text to k = count - k
 
--- src/lib.rt:99:5
 loop-holds : tie.Need-loop-holds Inv-loop μ-loop
 loop-holds c =
     let a = c .before .before .before .args in (omega arith, adds-none (a .text .now) (a .at) (omega (arith, c .before .before .before .pre .2)), omega arith)
 
--- src/lib.rt:100:9
 ride-line-requires : tie.Need-ride-line-requires Inv-loop μ-loop
 ride-line-requires c κs =
     let l = c .before .before .loop in (
@@ -38,15 +30,12 @@ ride-line-requires c κs =
       omega (arith, l .inv .1 .same-length, l .inv .2, c .before .before .before .before .before .before .pre .1 .few, c .before .before .before .before .before .before .pre .2),
     )
 
--- src/lib.rt:101:9
 add-k : tie.Need-add-k Inv-loop μ-loop
 add-k c = search needs
 
--- src/lib.rt:99:5
 loop-less : tie.Need-loop-less Inv-loop μ-loop
 loop-less c = search needs
 
--- src/lib.rt:99:5
 loop-again : tie.Need-loop-again Inv-loop μ-loop
 loop-again c =
     let l = c .before .before .before .before .before .loop in
@@ -57,11 +46,9 @@ loop-again c =
       omega (arith, l .inv .2, e .1),
     )
 
--- src/lib.rt:84:1
 same-length : tie.Need-same-length Inv-loop μ-loop
 same-length c = search needs
 
--- src/lib.rt:84:1
 returns : tie.Need-returns Inv-loop μ-loop
 returns c =
     let l = c .before .loop in

@@ -1,12 +1,8 @@
 use Prim.Native.Nat.{_/_}
-use Rattle.text.specs.Text.{Adds}
 use Rattle.text.proofs.Adding.{digits-none, digits-one, digits-more, few-digits}
 use borrow.Author.Needs.{needs}
-use Prim.Native.Nat.{ℕ, _+_, _-_, _*_, _≤_, _<_}
+use Prim.Native.Nat.{ℕ, _-_, _<_}
 use native.Mathlib.Omega.{arith}
-use mathlib.Core.Path.{_≡_, refl, sym, ap, _∙_}
-use mathlib.Core.Logic.{⊎-elim}
-use lib.ListN.{length, getD, set, length-set}
 use Prim.Native.Nat.{ℕ, _<_}
 use borrow.Fn.Kinds.{In}
 use borrow.Fn.PlainCycle.{Measures, is, falls, and}
@@ -25,66 +21,54 @@ digits-at t = and 1 digits-kinds.ps (is 1 digits-kinds.ps μ-digits t) digits.Pr
 abbrev digits-below : ℕ → In 1 digits-kinds.ps
 digits-below t = and 1 digits-kinds.ps (falls 1 digits-kinds.ps _<_ μ-digits t) digits.Pre
 
--- src/lib.rt:26:9
 digits-returns :
     (t : ℕ) → digits-lts.Need-returns (digits-below t, digits.Post) (digits-at t) digits.Post
 digits-returns t c =
     let a = c .before .before .args in digits-none (a .out .now) (a .at) (a .value) (a .most) (c .if1 .taken) (omega (arith, c .before .before .pre .1))
 
--- src/lib.rt:29:24
 digits-cast-out :
     (t : ℕ) → digits-lts.Need-cast-out (digits-below t, digits.Post) (digits-at t) digits.Post
 digits-cast-out t c = search needs
 
--- src/lib.rt:29:19
 digits-add-out :
     (t : ℕ) → digits-lts.Need-add-out (digits-below t, digits.Post) (digits-at t) digits.Post
 digits-add-out t c = search needs
 
--- src/lib.rt:29:9
 digits-slice-write-out :
     (t : ℕ) →
     digits-lts.Need-slice-write-out (digits-below t, digits.Post) (digits-at t) digits.Post
 digits-slice-write-out t c = search needs
 
--- src/lib.rt:30:16
 digits-add-result :
     (t : ℕ) → digits-lts.Need-add-result (digits-below t, digits.Post) (digits-at t) digits.Post
 digits-add-result t c = search needs
 
--- src/lib.rt:30:9
 digits-same-length :
     (t : ℕ) → digits-lts.Need-same-length (digits-below t, digits.Post) (digits-at t) digits.Post
 digits-same-length t c = search needs
 
--- src/lib.rt:30:9
 digits-returns-2 :
     (t : ℕ) → digits-lts.Need-returns-2 (digits-below t, digits.Post) (digits-at t) digits.Post
 digits-returns-2 t c =
     let a = c .before .before .before .args in digits-one (a .out .now) (a .at) (a .value) (a .most) (omega (arith, c .before .if1 .left)) (c .if2 .taken) (omega (arith, c .before .if1 .left, c .before .before .before .pre .1))
 
--- src/lib.rt:32:42
 digits-sub-digits :
     (t : ℕ) → digits-lts.Need-sub-digits (digits-below t, digits.Post) (digits-at t) digits.Post
 digits-sub-digits t c = search needs
 
--- src/lib.rt:32:9
 digits-digits-requires :
     (t : ℕ) →
     digits-lts.Need-digits-requires (digits-below t, digits.Post) (digits-at t) digits.Post
 digits-digits-requires t c κs = search needs
 
--- src/lib.rt:33:20
 digits-cast-out-2 :
     (t : ℕ) → digits-lts.Need-cast-out-2 (digits-below t, digits.Post) (digits-at t) digits.Post
 digits-cast-out-2 t c = search needs
 
--- src/lib.rt:33:15
 digits-add-out-2 :
     (t : ℕ) → digits-lts.Need-add-out-2 (digits-below t, digits.Post) (digits-at t) digits.Post
 digits-add-out-2 t c = search needs
 
--- src/lib.rt:33:5
 digits-slice-write-out-2 : (t : ℕ) → digits-lts.Need-slice-write-out-2 (
   digits-below t,
   digits.Post,
@@ -94,18 +78,15 @@ digits-slice-write-out-2 t c =
     let e = c .before .before .digits .ensures in
     omega (arith, e .to-is, e .same-length, few-digits (a .most - 1) (a .value / 10), c .before .before .before .before .before .before .before .pre .1, c .before .before .before .before .before .if1 .left)
 
--- src/lib.rt:34:5
 digits-add-result-2 :
     (t : ℕ) → digits-lts.Need-add-result-2 (digits-below t, digits.Post) (digits-at t) digits.Post
 digits-add-result-2 t c = search needs
 
--- src/lib.rt:21:1
 digits-same-length-2 :
     (t : ℕ) →
     digits-lts.Need-same-length-2 (digits-below t, digits.Post) (digits-at t) digits.Post
 digits-same-length-2 t c = search needs
 
--- src/lib.rt:21:1
 digits-returns-3 :
     (t : ℕ) → digits-lts.Need-returns-3 (digits-below t, digits.Post) (digits-at t) digits.Post
 digits-returns-3 t c =

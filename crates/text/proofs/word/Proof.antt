@@ -2,15 +2,11 @@ use lib.ListN.{take}
 use Rattle.text.specs.Text.{Adds}
 use Rattle.text.proofs.Adding.{word-none, word-more, word-all}
 use borrow.Author.Needs.{needs}
-use Prim.Native.Nat.{ℕ, _+_, _-_, _*_, _≤_, _<_}
+use Prim.Native.Nat.{_+_, _-_, _≤_}
 use native.Mathlib.Omega.{arith}
-use mathlib.Core.Path.{_≡_, refl, sym, ap, _∙_}
-use mathlib.Core.Logic.{⊎-elim}
-use lib.ListN.{length, getD, set, length-set}
+use lib.ListN.{length, getD, length-set}
 use Rattle.text.proofs.word.Statement.{statement}
 use Rattle.text.proofs.word.Tie as tie
-use Rattle.text.proofs.word.Reads as reads
-use Rattle.text.proofs.word.Lts as lts
 
 abbrev Inv-loop : tie.InvT-loop
 Inv-loop out₀ at bytes k₀ out k = Adds out₀ out at (at + k) (take k bytes) × (k ≤ length bytes) × (at + length bytes ≤ length out)
@@ -18,32 +14,25 @@ Inv-loop out₀ at bytes k₀ out k = Adds out₀ out at (at + k) (take k bytes)
 abbrev μ-loop : tie.MeasureT-loop
 μ-loop out₀ at bytes k₀ out k = length bytes - k
 
--- src/lib.rt:13:5
 loop-holds : tie.Need-loop-holds Inv-loop μ-loop
 loop-holds c =
     (word-none (c .args .out .now) (c .args .at) (c .args .bytes .now) (c .pre), omega arith, c .pre)
 
--- src/lib.rt:14:23
 shared-slice-read-out : tie.Need-shared-slice-read-out Inv-loop μ-loop
 shared-slice-read-out c = search needs
 
--- src/lib.rt:14:13
 add-out : tie.Need-add-out Inv-loop μ-loop
 add-out c = search needs
 
--- src/lib.rt:14:9
 slice-write-out : tie.Need-slice-write-out Inv-loop μ-loop
 slice-write-out c = search needs
 
--- src/lib.rt:15:9
 add-k : tie.Need-add-k Inv-loop μ-loop
 add-k c = search needs
 
--- src/lib.rt:13:5
 loop-less : tie.Need-loop-less Inv-loop μ-loop
 loop-less c = search needs
 
--- src/lib.rt:13:5
 loop-again : tie.Need-loop-again Inv-loop μ-loop
 loop-again c =
     let l = c .before .before .loop in
@@ -53,15 +42,12 @@ loop-again c =
       omega (arith, l .inv .2, length-set (l .out) (a .at + l .k) (getD (a .bytes .now) (l .k) 0)),
     )
 
--- src/lib.rt:17:5
 add-result : tie.Need-add-result Inv-loop μ-loop
 add-result c = search needs
 
--- src/lib.rt:8:1
 same-length : tie.Need-same-length Inv-loop μ-loop
 same-length c = search needs
 
--- src/lib.rt:8:1
 returns : tie.Need-returns Inv-loop μ-loop
 returns c =
     let l = c .before .loop in word-all (c .before .before .args .out .now) (l .out) (c .before .before .args .at) (l .k) (c .before .before .args .bytes .now) (omega arith) (l .inv .0)
