@@ -27,7 +27,7 @@ use Rattle.plan_call.specs.Tabled.{Servable, Tabled}
 use Rattle.walk.specs.Walk.{netOf}
 use Rattle.walk.proofs.Nets.{places-are, few-places}
 use Rattle.sheet_call.specs.Rows.{sheetIn}
-use Rattle.sheet_call.specs.Fields.{placesFields, sheetBytes, FileOf}
+use Rattle.sheet_file.specs.Fields.{placesFields, sheetBytes, FileOf}
 use Rattle.sheet_call.specs.Sheet.{Right, some, none, Answered}
 use Rattle.sheet_call.specs.Parts.{Table, Weighed}
 use Rattle.sheet_call.proofs.Rows.{our-sheet}

@@ -19,7 +19,7 @@ use Rattle.walk.specs.Walk.{netOf}
 use Rattle.plan_call.specs.Judge.{Judged, refuse, serve, judged}
 use Rattle.plan_call.proofs.Judging.{comes-to}
 use Rattle.plan_call.proofs.Once.{table-once}
-use Rattle.sheet_call.specs.Fields.{sheetFields, sheetBytes}
+use Rattle.sheet_file.specs.Fields.{sheetFields, sheetBytes}
 use Rattle.sheet_call.specs.Sheet.{Right, some, none, Output, Answered, Comes, Sheets}
 
 right-once : (N : Network) (q : Query) {x y : ℕ → PlanAnswer} → Right N q x → Right N q y → x ≡ y

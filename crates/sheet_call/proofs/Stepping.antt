@@ -17,7 +17,7 @@ use Rattle.plan.specs.Sheet.{Step}
 use Rattle.plan_file.specs.Puts.{Puts}
 use Rattle.plan_file.proofs.Puts.{puts-then}
 use Rattle.sheet_call.specs.Rows.{stepAt, stepsFrom}
-use Rattle.sheet_call.specs.Fields.{stepFields, stepsFields, placeFields, placesFields}
+use Rattle.sheet_file.specs.Fields.{stepFields, stepsFields, placeFields, placesFields}
 
 -- ---- the steps, cell by cell
 

@@ -15,7 +15,7 @@ use Rattle.rows.specs.Whole.{rowOf}
 use Rattle.rows.proofs.Wholes.{row-length}
 use Rattle.walk.proofs.Nets.{row-room}
 use Rattle.sheet_call.specs.Rows.{noCost, stepAt, stepsFrom, stepsOf, placesFrom, sheetIn}
-use Rattle.sheet_call.specs.Fields.{stepFields, stepsFields, placeFields, placesFields}
+use Rattle.sheet_file.specs.Fields.{stepFields, stepsFields, placeFields, placesFields}
 use Rattle.sheet_call.specs.Parts.{Counted, RoomAt, Table, Weighed}
 use Rattle.sheet_call.proofs.Stepping.{from-start, from-end, from-lower, from-same, fields-none, fields-more, steps-bits, place-bits, places-none, places-more, places-bits, Left, left-all, left-done, left-more}
 use Rattle.sheet_call.proofs.Rows.{places-end, places-next}

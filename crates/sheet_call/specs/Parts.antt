@@ -8,7 +8,7 @@ use Rattle.bits.specs.Packed.{Entry, bitsOf}
 use Rattle.plan.specs.Network.{Minute, Network, Query}
 use Rattle.plan.specs.Table.{cellAt, MinuteTable}
 use Rattle.sheet_call.specs.Rows.{stepsOf, sheetIn}
-use Rattle.sheet_call.specs.Fields.{sheetBytes}
+use Rattle.sheet_file.specs.Fields.{sheetBytes}
 use Rattle.sheet_call.specs.Sheet.{Answered}
 
 -- how many steps a row has, whatever its first minute

@@ -14,7 +14,7 @@ use Rattle.plan.specs.Plan.{Ride, Feasible}
 use Rattle.plan.specs.Sheet.{Step, OurSheet}
 use Rattle.plan_call.specs.Judge.{Judged, refuse, serve, judged}
 use Rattle.plan_call.specs.Call.{Filled, Untouched}
-use Rattle.sheet_call.specs.Fields.{sheetBytes, FileOf}
+use Rattle.sheet_file.specs.Fields.{sheetBytes, FileOf}
 
 -- the answer that goes with the sheet, if there is room: 0 exactly when a plan is feasible, 10 exactly when none is
 pub data Right (N : Network) (q : Query) : (ℕ → PlanAnswer) → Type 0 where

@@ -10,7 +10,7 @@ ghost use Rattle.plan_call.specs.Call.{asking};
 ghost use Rattle.plan_call.specs.Tabled.{Servable};
 ghost use Rattle.walk.specs.Walk.{netOf};
 ghost use Rattle.sheet_call.specs.Rows.{stepAt, stepsOf, sheetIn};
-ghost use Rattle.sheet_call.specs.Fields.{stepFields, stepsFields, placeFields, placesFields, sheetBytes, FileOf};
+ghost use Rattle.sheet_file.specs.Fields.{stepFields, stepsFields, placeFields, placesFields, sheetBytes, FileOf};
 ghost use Rattle.sheet_call.specs.Parts.{Counted, RoomAt, Table, Weighed, Serves};
 ghost use Rattle.sheet_call.specs.Sheet.{Sheets};
 use answer::PlanAnswer;

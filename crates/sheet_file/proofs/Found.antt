@@ -51,7 +51,7 @@ step-inv s at low latest limit x end e =
     }
 
 -- minutes from `low` to latest rise strictly, and costs below `limit` fall strictly
-abbrev Falling : Query → Minute → Cents → List Step → Type 0
+abbrev pub Falling : Query → Minute → Cents → List Step → Type 0
 Falling q low limit [] = Unit {0}
 Falling q low limit (x ∷ xs) = (low ≤ x .minute) × (x .minute ≤ q .latest) × (x .price < limit) × Falling q (x .minute + 1) (x .price) xs
 

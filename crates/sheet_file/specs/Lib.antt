@@ -1,3 +1,4 @@
 pub mod SheetFile
 pub mod InPlace
 pub mod Window
+pub mod Fields

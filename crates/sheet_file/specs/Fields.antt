@@ -1,4 +1,4 @@
--- Document 01, "Files": the fields of a sheet file in file order with their widths.
+-- Document 01, "Files": the fields of a sheet file in file order with their widths: what the sheet call writes, and `sheetOf` reads back.
 use Prim.Native.Nat.{ℕ}
 use mathlib.Core.List.{List, [], _∷_, _++_}
 use lib.ListN.{length}
