@@ -114,7 +114,7 @@ module _ (net plan sheet : List ℕ) where
 
 -- ---- accepted means cheapest
 
-askable : (net : List ℕ) (n : NetworkFile) (end : ℕ) (q : Query) → ofFile net ≡ found n end → Known (n .places) q → q .earliest ≤ q .latest
+pub askable : (net : List ℕ) (n : NetworkFile) (end : ℕ) (q : Query) → ofFile net ≡ found n end → Known (n .places) q → q .earliest ≤ q .latest
     → Askable (theory n) q
 askable net n end q is k w =
     let s : SoundNetwork n = network-sound (fileOf net) n end is in
