@@ -24,10 +24,14 @@ pub record Settle (old new copy : List ℕ) (from until : ℕ) : Type 0 where
   pub falls : (j : ℕ) → from ≤ j + 1 → j + 1 < until → at new (j + 1) ≤ at new j
   pub copied : (j : ℕ) → from ≤ j → j < until → at copy j ≡ at new j
 
+-- no ride from the columns from..until arrives below what stands there
+abbrev pub Passed : List ℕ → List ℕ → ℕ → ℕ → ℕ → ℕ → Type 0
+Passed part row from until time add = (j : ℕ) → from ≤ j → j < until → at part (j + time) ≤ at row j + add
+
 -- No ride from the columns before the one found arrives below what stands there; the one found does.
 pub record Search (part row : List ℕ) (from until time add first : ℕ) : Type 0 where
   pub within : (from ≤ first) × (first ≤ until)
-  pub passed : (j : ℕ) → from ≤ j → j < first → at part (j + time) ≤ at row j + add
+  pub passed : Passed part row from first time add
   pub lowers : first < until → at row first + add < at part (first + time)
 
 -- A ride from each of the columns from..until: the smaller of what stood where it arrives and what it gives.

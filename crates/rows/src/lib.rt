@@ -1,8 +1,10 @@
 // One row of the minute table: a stretch of the lent cells, lowered where it stands. Columns are minutes after earliest.
 ghost use mathlib.Core.Path.{_≡_};
+ghost use mathlib.Core.Bool.{false};
 ghost use Prim.Native.Nat.{_+_, _*_, _-_, _≤_, _<_, min};
+ghost use lib.Dec.{ltb};
 ghost use lib.ListN.{length, getD, replicate};
-ghost use Rattle.rows.specs.Row.{Search, Lower, Settle};
+ghost use Rattle.rows.specs.Row.{Passed, Search, Lower, Settle};
 ghost use Rattle.rows.specs.Whole.{SettleRow, LowerRow};
 
 fn wide(x: u32) -> u64
@@ -15,6 +17,25 @@ fn least(a: u32, b: u32) -> u32
     ensures { λ r. ⌜ r ≡ min a b ⌝ }
 {
     if a < b { a } else { b }
+}
+
+// What a ride adds, in 32 bits.
+fn capped(add: u64) -> u32
+    ensures { λ r. ⌜ r ≡ min add 4294967295 ⌝ }
+{
+    if add < 4294967295 {
+        add as u32
+    } else {
+        4294967295
+    }
+}
+
+// Where the next stretch of columns ends.
+fn stretch(from: usize, until: usize) -> usize
+    requires { ⌜ from < until ⌝ }
+    ensures { λ r. ⌜ (from < r) × (r ≤ until) ⌝ }
+{
+    if until - from < 64 { until } else { from + 64 }
 }
 
 // Every cell becomes `value`.
@@ -51,7 +72,46 @@ pub fn settle(part: &mut [u32], from: usize, row: &mut [u32])
     }
 }
 
-// The first of the columns from..until whose ride arrives below what stands there, or `until`.
+// Does a ride that adds so much arrive below a cell? In 32 bits: "no plan" plus anything is no less than "no plan".
+fn lowers(value: u32, add: u32, cell: u32) -> bool
+    ensures { λ r. ⌜ r ≡ ltb (value + add) cell ⌝ }
+{
+    least(value, 4294967295 - add) + add < cell
+}
+
+// Does a ride from any of the columns from..until arrive below what stands there? It never ends early, so that many columns
+// are tested at a time.
+fn any_lower(part: &[u32], row: &[u32], from: usize, until: usize, time: usize, add: u32) -> bool
+    requires { ⌜ (from ≤ until) × (until ≤ length (now row)) × (until + time ≤ length (now part)) ⌝ }
+    ensures { λ r. ⌜ (r ≡ false → Passed (now (part .entry)) (now (row .entry)) from until time add) ⌝ }
+{
+    let mut any = false;
+    let mut j = from;
+    while j < until {
+        if lowers(row[j], add, part[j + time]) {
+            any = true;
+        }
+        j += 1;
+    }
+    any
+}
+
+// The first of the columns from..until whose ride arrives below what stands there, or `until`: one column after the other.
+fn search(part: &[u32], row: &[u32], from: usize, until: usize, time: usize, add: u64) -> usize
+    requires { ⌜ (from ≤ until) × (until ≤ length (now row)) × (until + time ≤ length (now part)) × (add < 1000000000000) ⌝ }
+    ensures { λ r. ⌜ Search (now (part .entry)) (now (row .entry)) from until time add r ⌝ }
+{
+    let mut i = from;
+    while i < until {
+        if wide(row[i]) + add < wide(part[i + time]) {
+            return i;
+        }
+        i += 1;
+    }
+    i
+}
+
+// The same, a stretch of 64 columns at a time: only where one of them is lower are they looked at one by one.
 pub fn first_lower(
     part: &[u32],
     row: &[u32],
@@ -63,12 +123,14 @@ pub fn first_lower(
     requires { ⌜ (from ≤ until) × (until ≤ length (now row)) × (until + time ≤ length (now part)) × (add < 1000000000000) ⌝ }
     ensures { λ r. ⌜ Search (now (part .entry)) (now (row .entry)) from until time add r ⌝ }
 {
+    let small = capped(add);
     let mut i = from;
     while i < until {
-        if wide(row[i]) + add < wide(part[i + time]) {
-            return i;
+        let end = stretch(i, until);
+        if any_lower(part, row, i, end, time, small) {
+            return search(part, row, i, until, time, add);
         }
-        i += 1;
+        i = end;
     }
     i
 }
