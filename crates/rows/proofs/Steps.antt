@@ -5,8 +5,6 @@ use native.Mathlib.Decide.{ℕ-discrete, decLt}
 use mathlib.Core.Path.{_≡_, refl, sym, _∙_, ap}
 use mathlib.Core.Logic.{_≢_}
 use mathlib.Core.List.{List}
-use borrow.Author.Tests.{lt-ltb, le-ltb}
-use lib.Dec.{ltb}
 use lib.ListN.{length, set, length-set}
 use lib.Seq.{getD-set-same, getD-set-other}
 use Rattle.rows.specs.Row.{at, Since, Settle, Passed, Search, Lower}
@@ -78,18 +76,6 @@ module _ (old new copy : List ℕ) (from j best v : ℕ) (s : Settle old new cop
 
 -- ---- searching
 
--- two sums that are below a cell together are found to be so together
-pub ltb-same : (a b cell : ℕ) → (a < cell → b < cell) → (b < cell → a < cell) → ltb a cell ≡ ltb b cell
-ltb-same a b cell to from = each (decLt b cell)
-  where
-    each : Dec (b < cell) → ltb a cell ≡ ltb b cell
-    each (yes h) = lt-ltb a cell (from h) ∙ sym (lt-ltb b cell h)
-    each (no n) = le-ltb a cell (above (decLt a cell)) ∙ sym (le-ltb b cell (omega arith))
-      where
-        above : Dec (a < cell) → cell ≤ a
-        above (yes h) = absurd (n (to h))
-        above (no m) = omega arith
-
 pub search-more : (part row : List ℕ) (from j time add : ℕ) → Passed part row from j time add → at part (j + time) ≤ at row j + add
     → Passed part row from (j + 1) time add
 search-more part row from j time add h here i f u = each (ℕ-discrete i j)
@@ -98,14 +84,14 @@ search-more part row from j time add h here i f u = each (ℕ-discrete i j)
     each (yes e) = rw e here
     each (no n) = h i f (omega arith)
 
--- a stretch further, tested with what a ride adds cut at "no plan"
-pub passed-stretch : (part row : List ℕ) (from i end time add : ℕ) → Passed part row from i time add → Passed part row i end time (min add 4294967295)
+-- a stretch further
+pub passed-stretch : (part row : List ℕ) (from i end time add : ℕ) → Passed part row from i time add → Passed part row i end time add
     → Passed part row from end time add
 passed-stretch part row from i end time add before here j f u = each (decLt j i)
   where
     each : Dec (j < i) → at part (j + time) ≤ at row j + add
     each (yes h) = before j f h
-    each (no n) = omega (arith, here j (omega arith) u)
+    each (no n) = here j (omega arith) u
 
 -- what is found from a column on, where all before it were passed
 pub search-from : (part row : List ℕ) (from i until time add first : ℕ) → from ≤ i → Passed part row from i time add → Search part row i until time add first

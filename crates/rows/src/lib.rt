@@ -2,7 +2,6 @@
 ghost use mathlib.Core.Path.{_≡_};
 ghost use mathlib.Core.Bool.{false};
 ghost use Prim.Native.Nat.{_+_, _*_, _-_, _≤_, _<_, min};
-ghost use lib.Dec.{ltb};
 ghost use lib.ListN.{length, getD, replicate};
 ghost use Rattle.rows.specs.Row.{Passed, Search, Lower, Settle};
 ghost use Rattle.rows.specs.Whole.{SettleRow, LowerRow};
@@ -17,17 +16,6 @@ fn least(a: u32, b: u32) -> u32
     ensures { λ r. ⌜ r ≡ min a b ⌝ }
 {
     if a < b { a } else { b }
-}
-
-// What a ride adds, in 32 bits.
-fn capped(add: u64) -> u32
-    ensures { λ r. ⌜ r ≡ min add 4294967295 ⌝ }
-{
-    if add < 4294967295 {
-        add as u32
-    } else {
-        4294967295
-    }
 }
 
 // Where the next stretch of columns ends.
@@ -72,23 +60,25 @@ pub fn settle(part: &mut [u32], from: usize, row: &mut [u32])
     }
 }
 
-// Does a ride that adds so much arrive below a cell? In 32 bits: "no plan" plus anything is no less than "no plan".
-fn lowers(value: u32, add: u32, cell: u32) -> bool
-    ensures { λ r. ⌜ r ≡ ltb (value + add) cell ⌝ }
+// May a ride that adds so much arrive below a cell? Only the sum's last 32 bits are looked at, so that one that is too large for
+// a cell may pass for a small one; a small one never passes for too large.
+fn may_lower(value: u32, add: u64, cell: u32) -> bool
+    requires { ⌜ add < 1000000000000 ⌝ }
+    ensures { λ r. ⌜ (r ≡ false → cell ≤ value + add) ⌝ }
 {
-    least(value, 4294967295 - add) + add < cell
+    (((wide(value) + add) % 0x1_0000_0000) as u32) < cell
 }
 
-// Does a ride from any of the columns from..until arrive below what stands there? It never ends early, so that many columns
+// May a ride from any of the columns from..until arrive below what stands there? It never ends early, so that many columns
 // are tested at a time.
-fn any_lower(part: &[u32], row: &[u32], from: usize, until: usize, time: usize, add: u32) -> bool
-    requires { ⌜ (from ≤ until) × (until ≤ length (now row)) × (until + time ≤ length (now part)) ⌝ }
+fn any_lower(part: &[u32], row: &[u32], from: usize, until: usize, time: usize, add: u64) -> bool
+    requires { ⌜ (from ≤ until) × (until ≤ length (now row)) × (until + time ≤ length (now part)) × (add < 1000000000000) ⌝ }
     ensures { λ r. ⌜ (r ≡ false → Passed (now (part .entry)) (now (row .entry)) from until time add) ⌝ }
 {
     let mut any = false;
     let mut j = from;
     while j < until {
-        if lowers(row[j], add, part[j + time]) {
+        if may_lower(row[j], add, part[j + time]) {
             any = true;
         }
         j += 1;
@@ -123,11 +113,10 @@ pub fn first_lower(
     requires { ⌜ (from ≤ until) × (until ≤ length (now row)) × (until + time ≤ length (now part)) × (add < 1000000000000) ⌝ }
     ensures { λ r. ⌜ Search (now (part .entry)) (now (row .entry)) from until time add r ⌝ }
 {
-    let small = capped(add);
     let mut i = from;
     while i < until {
         let end = stretch(i, until);
-        if any_lower(part, row, i, end, time, small) {
+        if any_lower(part, row, i, end, time, add) {
             return search(part, row, i, until, time, add);
         }
         i = end;

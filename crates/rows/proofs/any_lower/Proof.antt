@@ -2,7 +2,6 @@
 use Rattle.rows.specs.Row.{Passed}
 use Rattle.rows.proofs.Steps.{search-more}
 use borrow.Author.Needs.{needs}
-use borrow.Author.Tests.{ltb-false}
 use Prim.Native.Nat.{_+_, _-_, _≤_, _<_}
 use native.Mathlib.Omega.{arith}
 use mathlib.Core.Path.{_≡_, sym, _∙_}
@@ -14,7 +13,7 @@ use Rattle.rows.proofs.any_lower.Tie as tie
 
 abbrev Inv-loop : tie.InvT-loop
 Inv-loop part row from until time add any₀ j₀ any j =
-    (from ≤ j) × (j ≤ until) × (until ≤ length row) × (until + time ≤ length part) × (any ≡ false → Passed part row from j time add)
+    (from ≤ j) × (j ≤ until) × (until ≤ length row) × (until + time ≤ length part) × (add < 1000000000000) × (any ≡ false → Passed part row from j time add)
 
 abbrev μ-loop : tie.MeasureT-loop
 μ-loop part row from until time add any₀ j₀ any j = until - j
@@ -22,25 +21,25 @@ abbrev μ-loop : tie.MeasureT-loop
 loop-holds : tie.Need-loop-holds Inv-loop μ-loop
 loop-holds c =
     let h = c .before .before .pre in
-    (omega arith, h .0, h .1, h .2, λ e i f u. absurd (omega arith))
+    (omega arith, h .0, h .1, h .2, h .3, λ e i f u. absurd (omega arith))
 
-mul-lowers : tie.Need-mul-lowers Inv-loop μ-loop
-mul-lowers c = search needs
+mul-may-lower : tie.Need-mul-may-lower Inv-loop μ-loop
+mul-may-lower c = search needs
 
-shared-slice-read-lowers : tie.Need-shared-slice-read-lowers Inv-loop μ-loop
-shared-slice-read-lowers c = search needs
+shared-slice-read-may-lower : tie.Need-shared-slice-read-may-lower Inv-loop μ-loop
+shared-slice-read-may-lower c = search needs
 
-add-lowers : tie.Need-add-lowers Inv-loop μ-loop
-add-lowers c = search needs
+add-may-lower : tie.Need-add-may-lower Inv-loop μ-loop
+add-may-lower c = search needs
 
-mul-lowers-2 : tie.Need-mul-lowers-2 Inv-loop μ-loop
-mul-lowers-2 c = search needs
+mul-may-lower-2 : tie.Need-mul-may-lower-2 Inv-loop μ-loop
+mul-may-lower-2 c = search needs
 
-shared-slice-read-lowers-2 : tie.Need-shared-slice-read-lowers-2 Inv-loop μ-loop
-shared-slice-read-lowers-2 c = search needs
+shared-slice-read-may-lower-2 : tie.Need-shared-slice-read-may-lower-2 Inv-loop μ-loop
+shared-slice-read-may-lower-2 c = search needs
 
-lowers-requires : tie.Need-lowers-requires Inv-loop μ-loop
-lowers-requires c κs = search needs
+may-lower-requires : tie.Need-may-lower-requires Inv-loop μ-loop
+may-lower-requires c κs = search needs
 
 add-j : tie.Need-add-j Inv-loop μ-loop
 add-j c = search needs
@@ -56,16 +55,17 @@ loop-again c =
       omega arith,
       l .inv .2,
       l .inv .3,
+      l .inv .4,
       λ e.
           ⊎-elim (λ w. absurd (true≢false (sym (w .1) ∙ e)))
-          (λ w. search-more (a .part .now) (a .row .now) (a .from) (l .j) (a .time) (a .add) (l .inv .4 (sym (w .1) ∙ e)) (ltb-false _ _ (sym (c .before .lowers .ensures) ∙ w .0 .left))) (c .if1 .came),
+          (λ w. search-more (a .part .now) (a .row .now) (a .from) (l .j) (a .time) (a .add) (l .inv .5 (sym (w .1) ∙ e)) (c .before .may-lower .ensures (w .0 .left))) (c .if1 .came),
     )
 
 returns : tie.Need-returns Inv-loop μ-loop
 returns c =
     let l = c .before .loop in
     let all : l .j ≡ c .before .before .before .before .args .until = omega arith in
-    rw (← all) (l .inv .4)
+    rw (← all) (l .inv .5)
 
 pub any-lower-spec : {M : Type 1} → statement M
 any-lower-spec =
@@ -74,12 +74,12 @@ any-lower-spec =
     Inv-loop
     μ-loop
     loop-holds
-    mul-lowers
-    shared-slice-read-lowers
-    add-lowers
-    mul-lowers-2
-    shared-slice-read-lowers-2
-    lowers-requires
+    mul-may-lower
+    shared-slice-read-may-lower
+    add-may-lower
+    mul-may-lower-2
+    shared-slice-read-may-lower-2
+    may-lower-requires
     add-j
     loop-less
     loop-again
