@@ -117,20 +117,8 @@ lower-none old row from time add = record {
 }
 
 module _ (old new row : List ℕ) (from j time add : ℕ) (l : Lower old new row from j time add) (starts : from ≤ j) where
-  pub lower-kept : at new (j + time) ≤ at row j + add → Lower old new row from (j + 1) time add
-  lower-kept h = record {
-    long = l .long;
-    before = l .before;
-    after = λ i k. l .after i (omega arith);
-    ridden = λ i f u. each i f u (ℕ-discrete i j);
-  }
-    where
-      each : (i : ℕ) → from ≤ i → i < j + 1 → Dec (i ≡ j) → at new (i + time) ≡ min (at old (i + time)) (at row i + add)
-      each i f u (yes e) = rw e (omega (arith, h, l .after (j + time) (omega arith)))
-      each i f u (no n) = l .ridden i f (omega arith)
-
-  pub lower-stored : (v : ℕ) → j + time < length new → v ≡ at row j + add → v < at new (j + time) → Lower old (set new (j + time) v) row from (j + 1) time add
-  lower-stored v there is h = record {
+  pub lower-more : (v : ℕ) → j + time < length new → v ≡ min (at new (j + time)) (at row j + add) → Lower old (set new (j + time) v) row from (j + 1) time add
+  lower-more v there is = record {
     long = length-set new (j + time) v ∙ l .long;
     before = λ i k. else i (omega arith) ∙ l .before i k;
     after = λ i k. else i (omega arith) ∙ l .after i (omega arith);
@@ -142,5 +130,5 @@ module _ (old new row : List ℕ) (from j time add : ℕ) (l : Lower old new row
 
       each : (i : ℕ) → from ≤ i → i < j + 1 → Dec (i ≡ j) → at (set new (j + time) v) (i + time) ≡ min (at old (i + time)) (at row i + add)
       each i f u (yes e) =
-          rw e (omega (arith, getD-set-same new (j + time) v 0 there, is, h, l .after (j + time) (omega arith)))
+          rw e (omega (arith, getD-set-same new (j + time) v 0 there, is, l .after (j + time) (omega arith)))
       each i f u (no n) = else (i + time) (omega arith) ∙ l .ridden i f (omega arith)

@@ -124,18 +124,34 @@ pub fn first_lower(
     i
 }
 
-// Rides from the columns from..until: a cell reached becomes what the ride gives, where that is smaller. Sums are in u64, so that
-// "no plan" plus anything is never stored.
+// What a ride adds, in 32 bits.
+fn capped(add: u64) -> u32
+    ensures { λ r. ⌜ r ≡ min add 4294967295 ⌝ }
+{
+    if add < 4294967295 {
+        add as u32
+    } else {
+        4294967295
+    }
+}
+
+// What a cell becomes that a ride reaches. In 32 bits, so that many are done at a time: a sum that is too large for a cell is cut,
+// and "no plan" plus anything is "no plan".
+fn ridden(cell: u32, value: u32, add: u64) -> u32
+    ensures { λ r. ⌜ r ≡ min cell (value + add) ⌝ }
+{
+    let small = capped(add);
+    least(cell, least(value, 4294967295 - small) + small)
+}
+
+// Rides from the columns from..until: a cell reached becomes what the ride gives, where that is smaller.
 pub fn lower(part: &mut [u32], row: &[u32], from: usize, until: usize, time: usize, add: u64)
     requires { ⌜ (from ≤ until) × (until ≤ length (now row)) × (until + time ≤ length (now part)) × (add < 1000000000000) ⌝ }
     ensures { λ r. ⌜ Lower (now (part .entry)) (now (part .exit)) (now (row .entry)) from until time add ⌝ }
 {
     let mut j = from;
     while j < until {
-        let candidate = wide(row[j]) + add;
-        if candidate < wide(part[j + time]) {
-            part[j + time] = candidate as u32;
-        }
+        part[j + time] = ridden(part[j + time], row[j], add);
         j += 1;
     }
 }
