@@ -10,21 +10,19 @@ use leg::Leg;
 use network::Size;
 use source::Origin;
 
-// The bit at which each leg stands.
+// The bit at which each leg stands: a leg's head has 28 bits, the last four of them its number of bands, and each band 28.
 pub fn chart(net: &[u8], size: Size) -> [u32; 512]
     requires { ⌜ networkFound (ofFile (now net)) ≡ NetworkFound.Sound size ⌝ }
     ensures { λ r. ⌜ Chart (now (net .entry)) r ⌝ }
 {
-    let no_list = [0u32; 1];
-    let places = size.places;
     let legs = size.legs;
     let mut chart = [0u32; 512];
     let mut place = 25;
     let mut k = 0;
     while k < legs {
         chart[k] = place as u32;
-        let found = network::leg_from(Origin::File, net, &no_list, place, places);
-        place = found.after;
+        let bands = bits::take(net, place + 24, 4) as usize;
+        place += 28 + 28 * bands;
         k += 1;
     }
     chart

@@ -1,13 +1,16 @@
 -- How far a reading goes: at most its fields' widths, from either source.
 use Prim.Native.Nat.{ℕ, zero, suc, _+_, _*_, _≤_}
-use mathlib.Core.Path.{_≡_, ap}
+use mathlib.Core.Path.{_≡_, ap, _∙_}
 use mathlib.Core.List.{List}
 use native.Mathlib.Omega.{arith}
+use borrow.Author.Tests.{leb-true}
+use lib.ListN.{length}
+use Rattle.bits.specs.Field.{field}
 use Rattle.leg.specs.declared.Band.{Band}
 use Rattle.leg.specs.declared.Leg.{Leg}
 use Rattle.source.specs.declared.Origin.{Origin}
 use Rattle.source.specs.declared.Origin.the-variants.{File, Numbers}
-use Rattle.source.specs.Source.{sourceOf}
+use Rattle.source.specs.Source.{sourceOf, fileOf}
 use Rattle.network.specs.declared.Head.{Head}
 use Rattle.network.specs.declared.Top.{Top}
 use Rattle.network.specs.Reading.{found}
@@ -67,3 +70,32 @@ module _ (o : Origin) (net list : List ℕ) where
       let n₂ = near 7 (src .after 8 0) (omega arith) in
       let n₃ = near 10 (src .after 7 (src .after 8 0)) (omega arith) in
       (omega (arith, n₁, n₂, n₃, r .end-is), r .legs-within)
+
+-- in a file a leg's count stands at its bit 24, and the leg ends just behind its bands
+module _ (s : List ℕ) where
+  bands-end : (n least : ℕ) (l : Leg) (at : ℕ) (l′ : Leg) (end : ℕ) → bands n least l (fileOf s) at ≡ found l′ end → end ≡ at + 28 * n
+  unfolding bands
+  bands-end zero least l at l′ end e =
+      let q : at ≡ end = cc in
+      omega arith
+  bands-end (suc n) least l at l′ end e =
+      let t = inner-step l′ end (band least (fileOf s) at) (λ b at₁. bands n (b .start .0 + 1) (withBand l b) (fileOf s) at₁) e in
+      let b = band-inv (fileOf s) at least (t .0) (t .1) (t .2) in
+      omega (arith, bands-end n (t .0 .start .0 + 1) (withBand l (t .0)) (t .1) l′ end (t .3), b .end-is)
+
+  pub record LegEnds (at end : ℕ) : Type 0 where
+    pub there : at + 28 ≤ 8 * length s
+    pub end-is : end ≡ at + 28 + 28 * field s (at + 24) 4
+
+  pub leg-ends : (places at : ℕ) (l : Leg) (end : ℕ) → leg edition1 places (fileOf s) at ≡ found l end → LegEnds at end
+  leg-ends places at l end e =
+      let t = inner-step l end (head edition1 places (fileOf s) at) (λ h at₁. bands (h .count) 0 (bare edition1 h) (fileOf s) at₁) e in
+      let h = head-inv (fileOf s) at edition1 places (t .0) (t .1) (t .2) in
+      let count : t .0 .count ≡ field s (at + 24) 4 = ap (λ (x : Head). x .count) (h .head-is) ∙ ap (λ p. field s p 4) (behind at) in
+      record {
+        there = omega (arith, leb-true (at + 6 + 6 + 12 + 4) (8 * length s) (h .count-there));
+        end-is = omega (arith, bands-end (t .0 .count) 0 (bare edition1 (t .0)) (t .1) l end (t .3), h .end-is, count);
+      }
+    where
+      behind : (n : ℕ) → n + 6 + 6 + 12 ≡ n + 24
+      behind n = omega arith

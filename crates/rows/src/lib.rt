@@ -76,12 +76,12 @@ fn any_lower(part: &[u32], row: &[u32], from: usize, until: usize, time: usize, 
     ensures { λ r. ⌜ (r ≡ false → Passed (now (part .entry)) (now (row .entry)) from until time add) ⌝ }
 {
     let mut any = false;
-    let mut j = from;
-    while j < until {
-        if may_lower(row[j], add, part[j + time]) {
+    let mut k = from;
+    while k < until {
+        if may_lower(row[k], add, part[k + time]) {
             any = true;
         }
-        j += 1;
+        k += 1;
     }
     any
 }

@@ -1,28 +1,56 @@
+-- `chart::chart`: the next leg stands just behind this one's bands.
 use borrow.Author.Needs.{needs}
-use Prim.Native.Nat.{_+_, _-_, _*_, _≤_}
+use Prim.Native.Nat.{ℕ, _+_, _-_, _*_, _≤_, _<_}
 use native.Mathlib.Omega.{arith}
-use mathlib.Core.Path.{sym, ap, _∙_, subst}
-use mathlib.Core.List.{[]}
+use mathlib.Core.Path.{_≡_, sym, ap, subst}
+use mathlib.Core.List.{List, []}
+use lib.ListN.{set}
+use Rattle.leg.specs.declared.Leg.{Leg}
 use Rattle.source.specs.declared.Origin.{Origin}
 use Rattle.source.specs.Source.{fileOf}
-use Rattle.network.specs.declared.LegFound.{LegFound}
+use Rattle.network.specs.declared.NetworkFound.{NetworkFound}
 use Rattle.network.specs.declared.Size.{Size}
-use Rattle.network.specs.Network.{Network, edition1}
-use Rattle.network.specs.Answers.{legFound}
+use Rattle.network.specs.Reading.{found}
+use Rattle.network.specs.Network.{Network, edition1, leg, ofFile}
+use Rattle.network.specs.Answers.{networkFound}
 use Rattle.network.proofs.Accepted.{passed-leg}
 use Rattle.network.proofs.Files.{sound-file, one-network}
-use Rattle.network.proofs.Near.{leg-near}
+use Rattle.network.proofs.Near.{leg-near, LegEnds, leg-ends}
 use Rattle.chart.specs.Chart.{Charted}
 use Rattle.chart.proofs.Charting.{Charting, charting-none, charting-more, charting-all}
 use Rattle.chart.proofs.chart.Statement.{statement}
 use Rattle.chart.proofs.chart.Tie as tie
 
+-- what is charted so far, for the network that the file stands for
+abbrev So-far : List ℕ → ℕ → ℕ → ℕ → List ℕ → Type 0
+So-far net legs k place chart = (size : Size) → networkFound (ofFile net) ≡ NetworkFound.Sound size → Charting net (size .places) legs k place chart
+
 abbrev Inv-loop : tie.InvT-loop
-Inv-loop net no-list places legs chart₀ place₀ k₀ chart place k =
-    (k ≤ legs) × (legs ≤ 512) × (place ≤ 25 + 252 * k) × Charting net places legs k place chart
+Inv-loop net legs chart₀ place₀ k₀ chart place k = (k ≤ legs) × (legs ≤ 512) × (place ≤ 25 + 252 * k) × So-far net legs k place chart
 
 abbrev μ-loop : tie.MeasureT-loop
-μ-loop net no-list places legs chart₀ place₀ k₀ chart place k = legs - k
+μ-loop net legs chart₀ place₀ k₀ chart place k = legs - k
+
+-- where leg k of the file stands and ends
+record Next (net : List ℕ) (size : Size) (k place : ℕ) : Type 0 where
+  leg-is : Leg
+  end : ℕ
+  stands : leg edition1 (size .places) (fileOf net) place ≡ found leg-is end
+  ends : LegEnds net place end
+  near : end ≤ place + 252
+
+next : (net : List ℕ) (size : Size) (k place : ℕ) (chart : List ℕ) → networkFound (ofFile net) ≡ NetworkFound.Sound size → k < size .legs
+    → Charting net (size .places) (size .legs) k place chart → Next net size k place
+next net size k place chart sound h p =
+    let f = sound-file net size sound in
+    let t = passed-leg edition1 (size .places) (fileOf net) (size .legs) 25 (f .net .legs) (f .end) (f .legs-read) k place (p .total) (p .passed) h in
+    record {
+      leg-is = t .0;
+      end = t .1;
+      stands = t .2;
+      ends = leg-ends net (size .places) place (t .0) (t .1) (t .2);
+      near = leg-near Origin.File net [] (size .places) place (t .0) (t .1) (t .2) .0;
+    }
 
 loop-holds : tie.Need-loop-holds Inv-loop μ-loop
 loop-holds c =
@@ -30,7 +58,7 @@ loop-holds c =
     let f = sound-file (a .net .now) (a .size) (c .before .pre) in
     let few = f .sound .few-legs in
     let size = ap (λ (x : Size). x .legs) (f .size-is) in
-    (omega arith, omega (arith, few, size), omega arith, charting-none (a .net .now) (a .size .places) (a .size .legs))
+    (omega arith, omega (arith, few, size), omega arith, λ z e. charting-none (a .net .now) (z .places) (a .size .legs))
 
 cast-chart : tie.Need-cast-chart Inv-loop μ-loop
 cast-chart c = search needs
@@ -41,11 +69,28 @@ mul-chart c = search needs
 array-write-chart : tie.Need-array-write-chart Inv-loop μ-loop
 array-write-chart c = search needs
 
-slice-aggregate-leg-from : tie.Need-slice-aggregate-leg-from Inv-loop μ-loop
-slice-aggregate-leg-from c = search needs
+add-take : tie.Need-add-take Inv-loop μ-loop
+add-take c = search needs
 
-leg-from-requires : tie.Need-leg-from-requires Inv-loop μ-loop
-leg-from-requires c κs = search needs
+take-requires : tie.Need-take-requires Inv-loop μ-loop
+take-requires c κs =
+    let a = c .before .before .before .args in
+    let l = c .before .loop in
+    let sound = c .before .before .before .pre in
+    let n = next (a .net .now) (a .size) (l .k) (l .place) (l .chart) sound (omega arith) (l .inv .3 (a .size) sound) in
+    (omega arith, omega arith, omega (arith, n .ends .there))
+
+cast-bands : tie.Need-cast-bands Inv-loop μ-loop
+cast-bands c = search needs
+
+mul-place : tie.Need-mul-place Inv-loop μ-loop
+mul-place c = search needs
+
+add-place : tie.Need-add-place Inv-loop μ-loop
+add-place c = search needs
+
+add-place-2 : tie.Need-add-place-2 Inv-loop μ-loop
+add-place-2 c = search needs
 
 add-k : tie.Need-add-k Inv-loop μ-loop
 add-k c = search needs
@@ -55,27 +100,30 @@ loop-less c = search needs
 
 loop-again : tie.Need-loop-again Inv-loop μ-loop
 loop-again c =
-    let a = c .before .before .before .before .before .args in
-    let l = c .before .before .before .loop in
-    let f = sound-file (a .net .now) (a .size) (c .before .before .before .before .before .pre) in
-    let p = l .inv .3 in
-    let t = passed-leg edition1 (a .size .places) (fileOf (a .net .now)) (a .size .legs) 25 (f .net .legs) (f .end) (f .legs-read) (l .k) (l .place) (p .total) (p .passed) (omega arith) in
-    let found-leg = ap (λ (x : LegFound). x .after) (c .leg-from .ensures ∙ ap legFound (t .2)) in
-    let near = leg-near Origin.File (a .net .now) [] (a .size .places) (l .place) (t .0) (t .1) (t .2) in (
+    let a = c .before .before .before .before .args in
+    let l = c .before .before .loop in
+    let sound = c .before .before .before .before .pre in
+    let p = l .inv .3 (a .size) sound in
+    let n = next (a .net .now) (a .size) (l .k) (l .place) (l .chart) sound (omega arith) p in
+    let there : l .place + (28 + 28 * c .take .result) ≡ n .end = omega (arith, n .ends .end-is, c .take .ensures) in (
       omega arith,
-      omega arith,
-      omega (arith, near .0, found-leg),
-      rw found-leg (charting-more (a .net .now) (a .size .places) (a .size .legs) (l .k) (l .place) (l .chart) (t .0) (t .1) p (omega arith) (omega arith) (omega arith) (t .2)),
+      l .inv .1,
+      omega (arith, n .near, there),
+      λ z e.
+          let same : a .size ≡ z = cc in
+          rw there
+          (subst (λ (w : Size). Charting (a .net .now) (w .places) (a .size .legs) (l .k + 1) (n .end) (set (l .chart) (l .k) (l .place))) same
+          (charting-more (a .net .now) (a .size .places) (a .size .legs) (l .k) (l .place) (l .chart) (n .leg-is) (n .end) p (omega arith) (omega arith) (omega arith) (n .stands))),
     )
 
 returns : tie.Need-returns Inv-loop μ-loop
 returns c net end e =
     let a = c .before .before .before .args in
     let l = c .before .loop in
-    let f = sound-file (a .net .now) (a .size) (c .before .before .before .pre) in
-    let size = f .size-is in
-    let p = l .inv .3 in
-    let places = ap (λ (x : Size). x .places) size in
+    let sound = c .before .before .before .pre in
+    let f = sound-file (a .net .now) (a .size) sound in
+    let p = l .inv .3 (a .size) sound in
+    let places = ap (λ (x : Size). x .places) (f .size-is) in
     let all = charting-all (a .net .now) (a .size .places) (a .size .legs) (l .k) (l .place) (l .chart) p (omega arith) (f .net .legs) (f .end) (f .legs-read) in
     subst (λ (n : Network). Charted (a .net .now) n (l .chart)) (sym (one-network (a .net .now) (a .size) f net end e))
     record { stands = rw (← places) all; near = p .near }
@@ -90,8 +138,12 @@ chart-spec =
     cast-chart
     mul-chart
     array-write-chart
-    slice-aggregate-leg-from
-    leg-from-requires
+    add-take
+    take-requires
+    cast-bands
+    mul-place
+    add-place
+    add-place-2
     add-k
     loop-less
     loop-again

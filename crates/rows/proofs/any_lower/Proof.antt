@@ -41,8 +41,8 @@ shared-slice-read-may-lower-2 c = search needs
 may-lower-requires : tie.Need-may-lower-requires Inv-loop μ-loop
 may-lower-requires c κs = search needs
 
-add-j : tie.Need-add-j Inv-loop μ-loop
-add-j c = search needs
+add-k : tie.Need-add-k Inv-loop μ-loop
+add-k c = search needs
 
 loop-less : tie.Need-loop-less Inv-loop μ-loop
 loop-less c = search needs
@@ -58,13 +58,13 @@ loop-again c =
       l .inv .4,
       λ e.
           ⊎-elim (λ w. absurd (true≢false (sym (w .1) ∙ e)))
-          (λ w. search-more (a .part .now) (a .row .now) (a .from) (l .j) (a .time) (a .add) (l .inv .5 (sym (w .1) ∙ e)) (c .before .may-lower .ensures (w .0 .left))) (c .if1 .came),
+          (λ w. search-more (a .part .now) (a .row .now) (a .from) (l .k) (a .time) (a .add) (l .inv .5 (sym (w .1) ∙ e)) (c .before .may-lower .ensures (w .0 .left))) (c .if1 .came),
     )
 
 returns : tie.Need-returns Inv-loop μ-loop
 returns c =
     let l = c .before .loop in
-    let all : l .j ≡ c .before .before .before .before .args .until = omega arith in
+    let all : l .k ≡ c .before .before .before .before .args .until = omega arith in
     rw (← all) (l .inv .5)
 
 pub any-lower-spec : {M : Type 1} → statement M
@@ -80,7 +80,7 @@ any-lower-spec =
     mul-may-lower-2
     shared-slice-read-may-lower-2
     may-lower-requires
-    add-j
+    add-k
     loop-less
     loop-again
     returns)
