@@ -1,6 +1,6 @@
 -- Charting the legs of a sound file, leg by leg, and what a chart tells.
 use Prim.Native.Nat.{ℕ, zero, suc, _+_, _≤_, _<_}
-use mathlib.Core.Path.{_≡_, refl, _∙_, ap, subst}
+use mathlib.Core.Path.{_≡_, refl, _∙_, ap, subst, subst⁻¹}
 use mathlib.Core.List.{List, [], _∷_, _++_}
 use native.Mathlib.Decide.{decLt, ℕ-discrete}
 use native.Mathlib.Omega.{arith}
@@ -73,6 +73,10 @@ module _ (s : List ℕ) (places n : ℕ) where
       close : (j : ℕ) → Dec (j ≡ k) → getD (set chart k place) j 0 ≤ 200000
       close j (yes q) = rw (q, getD-set-same chart k place 0 (omega (arith, p .size))) small
       close j (no q) = rw (getD-set-other chart k j place 0 q) (p .near j)
+
+  -- the next place under another name
+  pub charting-at : {k : ℕ} {chart : List ℕ} (place end : ℕ) → place ≡ end → Charting s places n k end chart → Charting s places n k place chart
+  charting-at {k} {chart} place end e = subst⁻¹ (λ p. Charting s places n k p chart) e
 
   -- all legs are charted
   pub charting-all : (k place : ℕ) (chart : List ℕ) → Charting s places n k place chart → n ≤ k

@@ -17,7 +17,7 @@ use Rattle.network.proofs.Accepted.{passed-leg}
 use Rattle.network.proofs.Files.{sound-file, one-network}
 use Rattle.network.proofs.Near.{leg-near, LegEnds, leg-ends}
 use Rattle.chart.specs.Chart.{Charted}
-use Rattle.chart.proofs.Charting.{Charting, charting-none, charting-more, charting-all}
+use Rattle.chart.proofs.Charting.{Charting, charting-none, charting-more, charting-at, charting-all}
 use Rattle.chart.proofs.chart.Statement.{statement}
 use Rattle.chart.proofs.chart.Tie as tie
 
