@@ -111,7 +111,7 @@ loop-again c =
       omega (arith, n .near, there),
       λ z e.
           let same : a .size ≡ z = cc in
-          rw there
+          charting-at (a .net .now) (z .places) (a .size .legs) _ (n .end) (omega (arith, there))
           (subst (λ (w : Size). Charting (a .net .now) (w .places) (a .size .legs) (l .k + 1) (n .end) (set (l .chart) (l .k) (l .place))) same
           (charting-more (a .net .now) (a .size .places) (a .size .legs) (l .k) (l .place) (l .chart) (n .leg-is) (n .end) p (omega arith) (omega arith) (omega arith) (n .stands))),
     )
