@@ -395,50 +395,74 @@ pub fn decode(file: &[u8]) -> Result<Net, u32> {
     Ok(net)
 }
 
-// The minute table: whole rows along legs, only from places whose row has changed.
+// The minute table: whole rows along legs, only from places whose row has changed, and only from the first column that did.
 
-/// dst = min(dst, src + add); true if a cell fell. Both rows have the same length.
+/// How many columns are tested at a time.
+const STRETCH: usize = 64;
+
+/// May a ride lower a cell of these? A sum that wraps around passes for one that does.
 #[inline]
-fn relax(dst: &mut [u32], src: &[u32], add: u32) -> bool {
-    let mut fell = 0;
-    for (d, &s) in dst.iter_mut().zip(src) {
-        let ride = s + add;
-        fell |= u32::from(ride < *d);
-        *d = ride.min(*d);
-    }
-    fell != 0
+fn may_lower(cells: &[u32], values: &[u32], add: u32) -> bool {
+    cells.iter().zip(values).fold(false, |any, (&cell, &value)| any | (value.wrapping_add(add) < cell))
 }
 
-/// A running minimum: waiting costs nothing. The column of the first value.
-fn settle(row: &mut [u32]) -> usize {
-    let first = row.iter().position(|&cell| cell != NONE).unwrap_or(row.len());
-    let mut least = NONE;
-    for cell in &mut row[first..] {
+/// The first of these cells that a ride lowers.
+#[inline]
+fn first_lower(cells: &[u32], values: &[u32], add: u32) -> Option<usize> {
+    for (k, (some, from)) in cells.chunks(STRETCH).zip(values.chunks(STRETCH)).enumerate() {
+        if may_lower(some, from, add) {
+            let lowers = |(&cell, &value): (&u32, &u32)| u64::from(value) + u64::from(add) < u64::from(cell);
+            if let Some(column) = some.iter().zip(from).position(lowers) {
+                return Some(k * STRETCH + column);
+            }
+        }
+    }
+    None
+}
+
+#[inline]
+fn lower(cells: &mut [u32], values: &[u32], add: u32) {
+    for (cell, &value) in cells.iter_mut().zip(values) {
+        *cell = value.saturating_add(add).min(*cell);
+    }
+}
+
+/// Waiting costs nothing: a running minimum from a column on, kept in the row and in a copy.
+fn settle(row: &mut [u32], from: usize, copy: &mut [u32]) {
+    let mut least = row[from.saturating_sub(1)];
+    for (cell, kept) in row[from..].iter_mut().zip(&mut copy[from..]) {
         least = least.min(*cell);
         *cell = least;
+        *kept = least;
+    }
+}
+
+/// A row lowered along one leg from the columns not before `from`: the first column that fell, or the width.
+fn ride(leg: &Leg, source: &[u32], from: usize, target: &mut [u32], earliest: usize) -> usize {
+    let width = source.len();
+    let time = leg.time as usize;
+    let bands = leg.bands as usize;
+    let mut first = width;
+    for band in 0..bands {
+        let low = (leg.starts[band] as usize).saturating_sub(earliest).max(from);
+        let next = if band + 1 < bands { leg.starts[band + 1] as usize } else { 2_880 };
+        let high = next.saturating_sub(earliest).min(width.saturating_sub(time));
+        if low < high {
+            let add = 64 * leg.tolls[band] as u32 + 1;
+            let (cells, values) = (&mut target[low + time..high + time], &source[low..high]);
+            if let Some(column) = first_lower(cells, values, add) {
+                lower(&mut cells[column..], &values[column..], add);
+                first = first.min(low + time + column);
+            }
+        }
     }
     first
 }
 
-/// A settled row lowered along one leg; true if a cell fell.
-fn ride(leg: &Leg, source: &[u32], first: usize, target: &mut [u32], earliest: usize) -> bool {
-    let width = source.len();
-    let time = leg.time as usize;
-    if time >= width {
-        return false;
-    }
-    let bands = leg.bands as usize;
-    let mut fell = false;
-    for band in 0..bands {
-        let low = (leg.starts[band] as usize).saturating_sub(earliest).max(first);
-        let next = if band + 1 < bands { leg.starts[band + 1] as usize } else { 2_880 };
-        let high = next.saturating_sub(earliest).min(width - time);
-        if low < high {
-            let add = 64 * leg.tolls[band] as u32 + 1;
-            fell |= relax(&mut target[low + time..high + time], &source[low..high], add);
-        }
-    }
-    fell
+/// The next place, from p on and around, that has something new to pass on.
+fn next_new(low: &[usize], place: usize, width: usize) -> Option<usize> {
+    let ahead = low[place..].iter().position(|&column| column < width).map(|k| place + k);
+    ahead.or_else(|| low[..place].iter().position(|&column| column < width))
 }
 
 /// Fills the table.
@@ -448,27 +472,22 @@ pub fn fill(net: &Net, query: &Query, cells: &mut [u32]) {
     cells[..net.places * width].fill(NONE);
     let start = query.start as usize;
     cells[start * width..(start + 1) * width].fill(0);
-    let mut changed = [false; 64];
-    changed[start] = true;
-    let mut source = [0u32; 2_880];
-    while changed.iter().any(|&c| c) {
-        for place in 0..net.places {
-            if !std::mem::take(&mut changed[place]) {
-                continue;
-            }
-            let row = &mut cells[place * width..(place + 1) * width];
-            let first = settle(row);
-            source[..width].copy_from_slice(row);
-            for &number in net.from(place) {
-                let leg = &net.legs[number as usize];
-                let to = leg.to as usize;
-                if to == place {
-                    continue;
-                }
-                let target = &mut cells[to * width..(to + 1) * width];
-                changed[to] |= ride(leg, &source[..width], first, target, earliest);
-            }
+    let mut low = [width; 64];
+    let low = &mut low[..net.places];
+    low[start] = 0;
+    let mut copy = [0u32; 2_880];
+    let copy = &mut copy[..width];
+    let mut next = Some(start);
+    while let Some(place) = next {
+        let from = std::mem::replace(&mut low[place], width);
+        settle(&mut cells[place * width..(place + 1) * width], from, copy);
+        for &number in net.from(place).iter().rev() {
+            let leg = &net.legs[number as usize];
+            let to = leg.to as usize;
+            let first = ride(leg, copy, from, &mut cells[to * width..(to + 1) * width], earliest);
+            low[to] = low[to].min(first);
         }
+        next = next_new(low, place, width);
     }
 }
 
