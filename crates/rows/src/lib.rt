@@ -6,12 +6,14 @@ ghost use lib.ListN.{length, getD, replicate};
 ghost use Rattle.rows.specs.Row.{Passed, Search, Lower, Settle};
 ghost use Rattle.rows.specs.Whole.{SettleRow, LowerRow};
 
+// A cell in 64 bits.
 fn wide(x: u32) -> u64
     ensures { λ r. ⌜ (r ≡ x) × (r < 4294967296) ⌝ }
 {
     x as u64
 }
 
+// The smaller of two cells.
 fn least(a: u32, b: u32) -> u32
     ensures { λ r. ⌜ r ≡ min a b ⌝ }
 {

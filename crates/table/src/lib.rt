@@ -25,12 +25,14 @@ pub struct Ask {
     pub latest: u32,
 }
 
+// A toll in 64 bits.
 fn wide(x: u32) -> u64
     ensures { λ r. ⌜ (r ≡ x) × (r < 4294967296) ⌝ }
 {
     x as u64
 }
 
+// The smaller and the greater of two columns.
 fn lesser(a: usize, b: usize) -> usize
     ensures { λ r. ⌜ r ≡ min a b ⌝ }
 {
