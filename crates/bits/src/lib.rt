@@ -91,14 +91,26 @@ fn scatter(s: &mut [u8], i: usize, count: usize, word: u64)
     }
 }
 
-// The field of `width` bits at bit `at` becomes `value`; every other bit is kept. At most five bytes are touched.
-pub fn put(s: &mut [u8], at: usize, width: usize, value: u32)
-    requires { ⌜ (1 ≤ width) × (width ≤ 32) × (value < 2 ^ width) × (at + width ≤ 8 * length (now s)) ⌝ }
+// The same as `put`, by way of the `count` bytes from the field's first on, which hold the whole field.
+fn put_among(s: &mut [u8], at: usize, width: usize, value: u32, count: usize)
+    requires { ⌜ (1 ≤ width) × (width ≤ 32) × (value < 2 ^ width) × (count ≤ 8) × (at % 8 + width ≤ 8 * count) × (at / 8 + count ≤ length (now s)) ⌝ }
     ensures { λ r. ⌜ Put (now (s .entry)) (now (s .exit)) at width value ⌝ }
 {
     let i = at / 8;
     let skip = at % 8;
-    let count = (skip + width + 7) / 8;
     let word = splice(gather(s, i, count), 8 * count - skip - width, width, value);
     scatter(s, i, count, word);
+}
+
+// The field of `width` bits at bit `at` becomes `value`; every other bit is kept. Eight bytes at once where they are there: one
+// load and one store. Near the end, just the bytes that hold the field.
+pub fn put(s: &mut [u8], at: usize, width: usize, value: u32)
+    requires { ⌜ (1 ≤ width) × (width ≤ 32) × (value < 2 ^ width) × (at + width ≤ 8 * length (now s)) ⌝ }
+    ensures { λ r. ⌜ Put (now (s .entry)) (now (s .exit)) at width value ⌝ }
+{
+    if at / 8 + 8 <= s.len() {
+        put_among(s, at, width, value, 8);
+    } else {
+        put_among(s, at, width, value, (at % 8 + width + 7) / 8);
+    }
 }

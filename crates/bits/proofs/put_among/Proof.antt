@@ -1,4 +1,4 @@
--- `bits::put`: the value is spliced into the bytes that hold the field.
+-- `bits::put_among`: the value is spliced into the bytes that hold the field.
 use Prim.Native.Nat.{_+_, _-_, _*_, _/_, _%_, _^_, _<_}
 use native.Mathlib.Omega.{arith}
 use mathlib.Core.Path.{_≡_}
@@ -8,8 +8,8 @@ use Rattle.bits.specs.Word.{spliced}
 use Rattle.bits.proofs.Fields.{field-below}
 use Rattle.bits.proofs.Splices.{splice-below}
 use Rattle.bits.proofs.Puts.{put-of-stored}
-use Rattle.bits.proofs.put.Statement.{statement}
-use Rattle.bits.proofs.put.Tie as tie
+use Rattle.bits.proofs.put_among.Statement.{statement}
+use Rattle.bits.proofs.put_among.Tie as tie
 
 -- first, so that a wrong program is refused here
 returns : tie.Need-returns
@@ -17,7 +17,7 @@ returns c =
     let start = c .before .before .before .before .before .before .before .before in
     let a = start .args in
     let i = a .at / 8 in
-    let n = (a .at % 8 + a .width + 7) / 8 in
+    let n = a .count in
     let d = 8 * n - a .at % 8 - a .width in
     let after = c .before .before .scatter .last .0 in
     let place : 8 * i + a .at % 8 ≡ a .at = omega arith in
@@ -28,12 +28,6 @@ returns c =
     (put-of-stored (a .s .now) after i n (a .at % 8) (a .width) d (a .value) (omega arith) (start .pre .2)
     (rw word at (c .before .before .scatter .ensures))
     (λ j. omega (arith, c .slice-known2 .given j)))
-
-add-count : tie.Need-add-count
-add-count c = search needs
-
-add-count-2 : tie.Need-add-count-2
-add-count-2 c = search needs
 
 gather-requires : tie.Need-gather-requires
 gather-requires c κs = search needs
@@ -54,7 +48,7 @@ scatter-requires : tie.Need-scatter-requires
 scatter-requires c κs =
     let start = c .before .before .before .before .before in
     let a = start .args in
-    let n = (a .at % 8 + a .width + 7) / 8 in
+    let n = a .count in
     let word = c .before .before .gather .result in
     let below : word < 2 ^ (8 * n) =
     rw (c .before .before .gather .ensures) (field-below (a .s .now) (8 * (a .at / 8)) (8 * n))
@@ -68,12 +62,10 @@ scatter-requires c κs =
 same-length : tie.Need-same-length
 same-length c = search needs
 
-pub put-spec : {M : Type 1} → statement M
-put-spec =
+pub put-among-spec : {M : Type 1} → statement M
+put-among-spec =
     tie.close
     (tie.spec
-    add-count
-    add-count-2
     gather-requires
     mul-splice
     sub-splice
