@@ -1,0 +1,46 @@
+// A bit reader: a lent file and the bit at which it reads. Fields are taken one after another straight from the lent bytes.
+ghost use mathlib.Core.Path.{_≡_};
+ghost use Prim.Native.Nat.{_+_, _*_, _^_, _≤_, _<_};
+ghost use lib.ListN.{length};
+ghost use Rattle.bits.specs.Field.{field};
+
+pub struct Reader<'a> {
+    pub file: &'a [u8],
+    pub at: usize,
+}
+
+// A reader at a bit of a file.
+pub fn open<'a>(file: &'a [u8], at: usize) -> Reader<'a>
+    ensures { λ r. ⌜ (r .file ≡ file .entry) × (r .at ≡ at) ⌝ }
+{
+    Reader { file, at }
+}
+
+impl<'a> Reader<'a> {
+    // The field of `width` bits at the reader's bit.
+    pub fn take(self, width: usize) -> u32
+        requires { ⌜ (1 ≤ width) × (width ≤ 32) × (self .at + width ≤ 8 * length (now (self .file))) ⌝ }
+        ensures { λ r. ⌜ r ≡ field (now (self .entry .file)) (self .entry .at) width ⌝ }
+    {
+        bits::take(self.file, self.at, width)
+    }
+
+    // The reader behind a field of `width` bits.
+    pub fn past(self, width: usize) -> Reader<'a>
+        requires { ⌜ self .at + width < 2 ^ 64 ⌝ }
+        ensures { λ r. ⌜ (r .file ≡ self .entry .file) × (r .at ≡ self .entry .at + width) ⌝ }
+    {
+        Reader {
+            file: self.file,
+            at: self.at + width,
+        }
+    }
+}
+
+// One field: a reader is opened, and a field taken.
+pub fn field(file: &[u8], at: usize, width: usize) -> u32
+    requires { ⌜ (1 ≤ width) × (width ≤ 32) × (at + width ≤ 8 * length (now file)) ⌝ }
+    ensures { λ r. ⌜ r ≡ field (now (file .entry)) at width ⌝ }
+{
+    open(file, at).take(width)
+}
