@@ -53,6 +53,10 @@ room-there s at r (same, here) n (some, few, there) =
 pub field-there : (s : RefT (List ℕ)) (at : ℕ) (r : Reader) → Opened s at r → (n : ℕ) → field (now (r .file)) (r .at) n ≡ field (now s) at n
 field-there s at r (same, here) n = ap (λ (f : RefT (List ℕ)). field (now f) (r .at) n) same ∙ ap (λ (a : ℕ). field (now s) a n) here
 
+-- the reader behind a field is as one opened there
+pub opened-behind : (s : RefT (List ℕ)) (at : ℕ) (r : Reader) → Opened s at r → (n : ℕ) (r′ : Reader) → Behind r n r′ → Opened s (at + n) r′
+opened-behind s at r (same, here) n r′ (same′, here′) = (same′ ∙ same, here′ ∙ ap (λ (a : ℕ). a + n) here)
+
 module _ {M : Type 1} (𝓤 : URA M) (H : Heap 𝓤) (A : Atoms 𝓤) (mem : Memory → SProp 𝓤) (run : Routine → Fun 𝓤) where
   abbrev pub Open : Contract 𝓤
   Open = tripleOf 𝓤 H A opening.signature (opening.spec 𝓤 H A mem run)

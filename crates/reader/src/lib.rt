@@ -37,10 +37,32 @@ impl<'a> Reader<'a> {
     }
 }
 
+// Two fields that stand one after the other.
+pub struct Two {
+    pub first: u32,
+    pub second: u32,
+}
+
+// Two numbers side by side.
+fn both(first: u32, second: u32) -> Two
+    ensures { λ r. ⌜ (r .first ≡ first) × (r .second ≡ second) ⌝ }
+{
+    Two { first, second }
+}
+
 // One field: a reader is opened, and a field taken.
 pub fn field(file: &[u8], at: usize, width: usize) -> u32
     requires { ⌜ (1 ≤ width) × (width ≤ 32) × (at + width ≤ 8 * length (now file)) ⌝ }
     ensures { λ r. ⌜ r ≡ field (now (file .entry)) at width ⌝ }
 {
     open(file, at).take(width)
+}
+
+// Two fields, one after the other.
+pub fn pair(file: &[u8], at: usize, first: usize, second: usize) -> Two
+    requires { ⌜ (1 ≤ first) × (first ≤ 32) × (1 ≤ second) × (second ≤ 32) × (at + first < 2 ^ 64) × (at + first + second ≤ 8 * length (now file)) ⌝ }
+    ensures { λ r. ⌜ (r .first ≡ field (now (file .entry)) at first) × (r .second ≡ field (now (file .entry)) (at + first) second) ⌝ }
+{
+    let reader = open(file, at);
+    both(reader.take(first), reader.past(first).take(second))
 }
