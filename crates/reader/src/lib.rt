@@ -1,8 +1,10 @@
 // A bit reader: a lent file and the bit at which it reads. Fields are taken one after another straight from the lent bytes.
 ghost use mathlib.Core.Path.{_≡_};
 ghost use Prim.Native.Nat.{_+_, _*_, _^_, _≤_, _<_};
+ghost use lib.Dec.{leb};
 ghost use lib.ListN.{length};
 ghost use Rattle.bits.specs.Field.{field};
+ghost use Rattle.reader.specs.File.{endsAt};
 
 pub struct Reader<'a> {
     pub file: &'a [u8],
@@ -65,4 +67,27 @@ pub fn pair(file: &[u8], at: usize, first: usize, second: usize) -> Two
 {
     let reader = open(file, at);
     both(reader.take(first), reader.past(first).take(second))
+}
+
+// Are the `width` bits at bit `at` all there?
+pub fn there(file: &[u8], at: usize, width: usize) -> bool
+    requires { ⌜ (at ≤ 10000000) × (width ≤ 64) ⌝ }
+    ensures { λ r. ⌜ r ≡ leb (at + width) (8 * length (now (file .entry))) ⌝ }
+{
+    (at + width + 7) / 8 <= file.len()
+}
+
+// Is there nothing but fill from bit `at` on: the last byte is filled with zero bits, and nothing follows?
+pub fn ends(file: &[u8], at: usize) -> bool
+    requires { ⌜ at ≤ 10000000 ⌝ }
+    ensures { λ r. ⌜ r ≡ endsAt (now (file .entry)) at ⌝ }
+{
+    if file.len() != (at + 7) / 8 {
+        return false;
+    }
+    let fill = 8 * file.len() - at;
+    if fill == 0 {
+        return true;
+    }
+    field(file, at, fill) == 0
 }

@@ -2,9 +2,9 @@ use Prim.Native.Nat.{_+_, _*_, _/_}
 use native.Mathlib.Omega.{arith}
 use lib.ListN.{length}
 use borrow.Author.Needs.{needs}
-use Rattle.source.proofs.Laws.{leb-same}
-use Rattle.source.proofs.there.Statement.{statement}
-use Rattle.source.proofs.there.Tie as tie
+use Rattle.reader.proofs.Tests.{leb-same}
+use Rattle.reader.proofs.there.Statement.{statement}
+use Rattle.reader.proofs.there.Tie as tie
 
 add-result : tie.Need-add-result
 add-result c = search needs
@@ -15,7 +15,7 @@ add-result-2 c = search needs
 returns : tie.Need-returns
 returns c =
     let end = c .args .at + c .args .width in
-    let n = length (c .args .net .now) in
+    let n = length (c .args .file .now) in
     leb-same ((end + 7) / 8) n end (8 * n) (λ h. omega arith) (λ h. omega arith)
 
 pub there-spec : {M : Type 1} → statement M
