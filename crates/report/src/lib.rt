@@ -56,8 +56,9 @@ fn arrival_after(
         return earliest.0;
     }
     let at = 89 + 21 * (count - 1);
-    let leg = reader::field(plan, at, 9) as usize;
-    let departure = reader::field(plan, at + 9, 12);
+    let said = reader::pair(plan, at, 9, 12);
+    let leg = said.first as usize;
+    let departure = said.second;
     let ridden = chart::leg_at(net, size.places, chart[leg]);
     let time = ridden.time;
     departure + time.0
@@ -81,8 +82,9 @@ fn ride_line(
         × (r ≤ at + 48) ⌝ }
 {
     let place = 89 + 21 * k;
-    let leg = reader::field(plan, place, 9);
-    let departure = reader::field(plan, place + 9, 12);
+    let said = reader::pair(plan, place, 9, 12);
+    let leg = said.first;
+    let departure = said.second;
     let before = arrival_after(net, chart, size, plan, query, k);
     leg_line(text, at, leg, departure, departure - before)
 }
