@@ -45,7 +45,7 @@ pub struct Two {
     pub second: u32,
 }
 
-// Two numbers side by side.
+// Two numbers side by side; covered, so that the walk of `pair` puts no struct together.
 fn both(first: u32, second: u32) -> Two
     ensures { λ r. ⌜ (r .first ≡ first) × (r .second ≡ second) ⌝ }
 {

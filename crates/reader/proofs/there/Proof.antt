@@ -1,4 +1,4 @@
-use Prim.Native.Nat.{_+_, _*_, _/_}
+use Prim.Native.Nat.{_+_, _*_}
 use native.Mathlib.Omega.{arith}
 use lib.ListN.{length}
 use borrow.Author.Needs.{needs}
@@ -14,9 +14,8 @@ add-result-2 c = search needs
 
 returns : tie.Need-returns
 returns c =
-    let end = c .args .at + c .args .width in
     let n = length (c .args .file .now) in
-    leb-same ((end + 7) / 8) n end (8 * n) (λ h. omega arith) (λ h. omega arith)
+    leb-same _ n (c .args .at + c .args .width) (8 * n) (λ h. omega arith) (λ h. omega arith)
 
 pub there-spec : {M : Type 1} → statement M
 there-spec = tie.close (tie.spec add-result add-result-2 returns)
