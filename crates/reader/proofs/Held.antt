@@ -33,7 +33,7 @@ laws κs = T′.the-laws (lft κs)
 abbrev pub fields : (κs : Lfts 1) → Reader → Values (Its κs .parts)
 fields κs d = (d .file, (d .at, tt))
 
--- it may be had twice, since it lends and owns nothing else
+-- all that it holds is lent, so it may be had twice
 pub twice : {M : Type 1} (𝓤 : URA M) (H : Heap 𝓤) (A : Atoms 𝓤) → Given 𝓤 H A → (κs : Lfts 1) (d : Reader) (u : Val)
     → ent 𝓤 (sem 𝓤 H A (Row κs .own d (u ∷ []))) (sep 𝓤 (sem 𝓤 H A (Row κs .own d (u ∷ []))) (sem 𝓤 H A (Row κs .own d (u ∷ []))))
 twice 𝓤 H A W κs d u = LL.copy (Its κs) (T′.the-copy (lft κs)) 𝓤 H A W .twice d (u ∷ [])

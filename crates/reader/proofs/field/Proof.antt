@@ -1,6 +1,6 @@
 -- `field`: a walk by hand. A reader is opened into a local, and taken from; of both only the contract is known.
 -- In a local the reader's lifetime is erased; what it owns does not say the lifetime's name.
-use mathlib.Core.Path.{_≡_, refl, ap, subst, sym, _∙_}
+use mathlib.Core.Path.{_≡_, refl, _∙_}
 use Prim.Native.Nat.{ℕ, _+_, _*_, _≤_, _<_, _^_}
 use mathlib.Core.List.{List, [], _∷_}
 use lib.ListN.{length}
@@ -40,7 +40,7 @@ use Rattle.reader.specs.declared.Reader.{Reader}
 use Rattle.reader.proofs.Reader as T
 use Rattle.reader.proofs.Reader.Laws as T′
 use Rattle.reader.proofs.Held as held
-use Rattle.reader.proofs.Steps.{Open, Take, Opened, Found, Room}
+use Rattle.reader.proofs.Steps.{Open, Take, Opened, Found}
 use Rattle.reader.proofs.Steps as steps
 use Rattle.reader.proofs.open as opening
 use Rattle.reader.proofs.open.Symbol as open-def
