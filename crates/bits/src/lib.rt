@@ -50,7 +50,7 @@ fn cut(word: u64, down: usize, width: usize) -> u32
 }
 
 // The field of `width` bits at bit `at`, where eight bytes are there from its first on: one load, one shift and one mask.
-pub fn take_inside(s: &[u8], at: usize, width: usize) -> u32
+fn take_inside(s: &[u8], at: usize, width: usize) -> u32
     requires { ⌜ (1 ≤ width) × (width ≤ 32) × (at / 8 + 8 ≤ length (now s)) ⌝ }
     ensures { λ r. ⌜ r ≡ field (now (s .entry)) at width ⌝ }
 {

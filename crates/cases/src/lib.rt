@@ -35,7 +35,7 @@ fn number(s: &[u8], place: usize) -> u32 {
     if s.len() - at < 4 {
         return 0;
     }
-    bits::take(s, 8 * at, 32)
+    reader::field(s, 8 * at, 32)
 }
 
 // The place after a number, and after a number and that many bytes or numbers.

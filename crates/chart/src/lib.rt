@@ -21,7 +21,7 @@ pub fn chart(net: &[u8], size: Size) -> [u32; 512]
     let mut k = 0;
     while k < legs {
         chart[k] = place as u32;
-        let bands = bits::take(net, place + 24, 4) as usize;
+        let bands = reader::field(net, place + 24, 4) as usize;
         place += 28 + 28 * bands;
         k += 1;
     }

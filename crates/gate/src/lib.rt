@@ -67,8 +67,9 @@ fn ride(net: &[u8], size: Size, chart: &[u32; 512], plan: &[u8], k: usize, state
     requires { ⌜ Known-file (now net) size (now chart) × (89 + 21 * (k + 1) ≤ 8 * length (now plan)) × (k ≤ 4096) × (state .cost ≤ 1000000000) ⌝ }
     ensures { λ r. ⌜ Rode (theoryAt (now (net .entry))) (rideAt (now (plan .entry)) k) state r ⌝ }
 {
-    let number = bits::take(plan, 89 + 21 * k, 9) as usize;
-    let departure = bits::take(plan, 89 + 21 * k + 9, 12);
+    let said = reader::pair(plan, 89 + 21 * k, 9, 12);
+    let number = said.first as usize;
+    let departure = said.second;
     if size.legs <= number {
         return off(state);
     }

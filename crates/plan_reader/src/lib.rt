@@ -7,7 +7,6 @@ ghost use Rattle.plan_reader.specs.InPlace.{Told, Headed};
 use leg::Cents;
 use leg::Minute;
 use plan_file::Query;
-use source::Origin;
 
 // What a plan file says, but for its rides; zeros where it is not sound.
 pub struct Plan {
@@ -47,13 +46,13 @@ fn head(plan: &[u8]) -> Plan
     requires { ⌜ 12 ≤ length (now plan) ⌝ }
     ensures { λ r. ⌜ Headed (now (plan .entry)) r ⌝ }
 {
-    let verdict = bits::take(plan, 8, 1);
-    let start = bits::take(plan, 9, 6);
-    let end = bits::take(plan, 15, 6);
-    let earliest = bits::take(plan, 21, 12);
-    let latest = bits::take(plan, 33, 12);
-    let cost = bits::take(plan, 45, 32);
-    let legs = bits::take(plan, 77, 12) as usize;
+    let verdict = reader::field(plan, 8, 1);
+    let start = reader::field(plan, 9, 6);
+    let end = reader::field(plan, 15, 6);
+    let earliest = reader::field(plan, 21, 12);
+    let latest = reader::field(plan, 33, 12);
+    let cost = reader::field(plan, 45, 32);
+    let legs = reader::field(plan, 77, 12) as usize;
     Plan {
         sound: true,
         verdict,
@@ -75,7 +74,7 @@ pub fn plan_from(plan: &[u8]) -> Plan
     if plan.len() < 12 {
         return no_plan();
     }
-    if bits::take(plan, 0, 8) != Plan::EDITION {
+    if reader::field(plan, 0, 8) != Plan::EDITION {
         return no_plan();
     }
     let read = head(plan);
@@ -91,8 +90,7 @@ pub fn plan_from(plan: &[u8]) -> Plan
             return no_plan();
         }
     }
-    let no_list = [0u32; 1];
-    if source::ends(Origin::File, plan, &no_list, 89 + 21 * legs) {
+    if reader::ends(plan, 89 + 21 * legs) {
         return read;
     }
     no_plan()

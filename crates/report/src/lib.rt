@@ -56,8 +56,9 @@ fn arrival_after(
         return earliest.0;
     }
     let at = 89 + 21 * (count - 1);
-    let leg = bits::take(plan, at, 9) as usize;
-    let departure = bits::take(plan, at + 9, 12);
+    let said = reader::pair(plan, at, 9, 12);
+    let leg = said.first as usize;
+    let departure = said.second;
     let ridden = chart::leg_at(net, size.places, chart[leg]);
     let time = ridden.time;
     departure + time.0
@@ -81,8 +82,9 @@ fn ride_line(
         × (r ≤ at + 48) ⌝ }
 {
     let place = 89 + 21 * k;
-    let leg = bits::take(plan, place, 9);
-    let departure = bits::take(plan, place + 9, 12);
+    let said = reader::pair(plan, place, 9, 12);
+    let leg = said.first;
+    let departure = said.second;
     let before = arrival_after(net, chart, size, plan, query, k);
     leg_line(text, at, leg, departure, departure - before)
 }
@@ -119,8 +121,8 @@ fn plan_lines(net: &[u8], size: Size, plan: &[u8], query: Query, text: &mut [u8]
         ++ ridesText (netOf (now (net .entry))) (queryOf query) (ridesIn (now (plan .entry)) (field (now (plan .entry)) 77 12))))) ⌝ }
 {
     let chart = chart::chart(net, size);
-    let cost = bits::take(plan, 45, 32);
-    let count = bits::take(plan, 77, 12) as usize;
+    let cost = reader::field(plan, 45, 32);
+    let count = reader::field(plan, 77, 12) as usize;
     let arrival = arrival_after(net, &chart, size, plan, query, count);
     let after_answer = answer_line(text, 0);
     let after_cost = text::line(text, after_answer, b"cost ", cost);
@@ -178,14 +180,14 @@ pub fn report(input: &[u8], table: &mut [u32], plan: &mut [u8], text: &mut [u8])
     if input.len() < 5 {
         return answer_line(text, 1);
     }
-    if bits::take(input, 36, 4) != 0 {
+    if reader::field(input, 36, 4) != 0 {
         return answer_line(text, 5);
     }
     let query = Query {
-        start: bits::take(input, 0, 6),
-        end: bits::take(input, 6, 6),
-        earliest: Minute(bits::take(input, 12, 12)),
-        latest: Minute(latest_of(bits::take(input, 24, 12))),
+        start: reader::field(input, 0, 6),
+        end: reader::field(input, 6, 6),
+        earliest: Minute(reader::field(input, 12, 12)),
+        latest: Minute(latest_of(reader::field(input, 24, 12))),
     };
     net_text(&input[5..], query, table, plan, text)
 }

@@ -33,7 +33,7 @@ fn first(sheet: &[u8], at: usize, left: usize) -> u32
     if left == 0 {
         return 4096;
     }
-    bits::take(sheet, at, 12)
+    reader::field(sheet, at, 12)
 }
 
 // Before the first step of the place whose count stands at a bit.
@@ -42,7 +42,7 @@ fn begin(sheet: &[u8], place: u32) -> Cursor
     ensures { λ r. ⌜ Begun (now (sheet .entry)) place r ⌝ }
 {
     let at = place as usize + 12;
-    let left = bits::take(sheet, place as usize, 12) as usize;
+    let left = reader::field(sheet, place as usize, 12) as usize;
     let next = first(sheet, at, left);
     Cursor {
         at,
@@ -64,7 +64,7 @@ fn forward(sheet: &[u8], cursor: Cursor, minute: u32) -> Cursor
     let mut has = cursor.has;
     let mut price = cursor.price;
     while next <= minute {
-        price = bits::take(sheet, at + 12, 32);
+        price = reader::field(sheet, at + 12, 32);
         has = true;
         at += 44;
         left -= 1;

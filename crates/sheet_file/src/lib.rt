@@ -2,8 +2,6 @@
 ghost use mathlib.Core.Path.{_≡_};
 ghost use mathlib.Core.Bool.{false};
 ghost use Prim.Native.Nat.{_+_, _*_, _≤_};
-ghost use lib.Dec.{leb};
-ghost use lib.ListN.{length};
 ghost use Rattle.bits.specs.Field.{field};
 ghost use Rattle.source.specs.Source.{fileOf};
 ghost use Rattle.sheet_file.specs.SheetFile.{step, steps, onePlace, top, sheetOf, anyCost};
@@ -29,29 +27,6 @@ pub struct SheetFound {
     pub index: [u32; 64],
 }
 
-// Are the `width` bits at bit `at` all there?
-fn there(sheet: &[u8], at: usize, width: usize) -> bool
-    requires { ⌜ (at ≤ 10000000) × (width ≤ 44) ⌝ }
-    ensures { λ r. ⌜ r ≡ leb (at + width) (8 * length (now (sheet .entry))) ⌝ }
-{
-    (at + width + 7) / 8 <= sheet.len()
-}
-
-// The last byte is filled with zero bits, and nothing follows.
-fn ends(sheet: &[u8], at: usize) -> bool
-    requires { ⌜ at ≤ 10000000 ⌝ }
-    ensures { λ r. ⌜ r ≡ fileOf (now (sheet .entry)) .ends at ⌝ }
-{
-    if sheet.len() != (at + 7) / 8 {
-        return false;
-    }
-    let fill = 8 * sheet.len() - at;
-    if fill == 0 {
-        return true;
-    }
-    bits::take(sheet, at, fill) == 0
-}
-
 // What an unsound step comes back as.
 fn no_step() -> StepFound
     ensures { λ r. ⌜ r ≡ record { sound = false; minute = 0; price = 0 } ⌝ }
@@ -68,11 +43,12 @@ fn step_from(sheet: &[u8], at: usize, low: u32, latest: u32, limit: u64) -> Step
     requires { ⌜ at ≤ 9000000 ⌝ }
     ensures { λ r. ⌜ StepIs (now (sheet .entry)) at low latest limit r ⌝ }
 {
-    if !there(sheet, at, 44) {
+    if !reader::there(sheet, at, 44) {
         return no_step();
     }
-    let minute = bits::take(sheet, at, 12);
-    let price = bits::take(sheet, at + 12, 32);
+    let step = reader::pair(sheet, at, 12, 32);
+    let minute = step.first;
+    let price = step.second;
     if minute < low {
         return no_step();
     }
@@ -114,13 +90,13 @@ fn place_from(sheet: &[u8], at: usize, earliest: u32, latest: u32) -> PlaceFound
     requires { ⌜ at ≤ 8200000 ⌝ }
     ensures { λ r. ⌜ PlaceIs (now (sheet .entry)) at (window earliest latest) r ⌝ }
 {
-    if !there(sheet, at, 12) {
+    if !reader::there(sheet, at, 12) {
         return PlaceFound {
             sound: false,
             after: 0,
         };
     }
-    let count = bits::take(sheet, at, 12) as usize;
+    let count = reader::field(sheet, at, 12) as usize;
     if 2880 < count {
         return PlaceFound {
             sound: false,
@@ -138,13 +114,13 @@ fn place_from(sheet: &[u8], at: usize, earliest: u32, latest: u32) -> PlaceFound
 fn top_sound(sheet: &[u8], places: u32) -> bool
     ensures { λ r. ⌜ Tested r (top places (fileOf (now (sheet .entry))) 0) tt 15 ⌝ }
 {
-    if !there(sheet, 0, 15) {
+    if !reader::there(sheet, 0, 15) {
         return false;
     }
-    if bits::take(sheet, 0, 8) != 1 {
+    if reader::field(sheet, 0, 8) != 1 {
         return false;
     }
-    bits::take(sheet, 8, 7) == places
+    reader::field(sheet, 8, 7) == places
 }
 
 // A whole sheet file.
@@ -174,6 +150,6 @@ pub fn sheet_from(sheet: &[u8], places: u32, earliest: u32, latest: u32) -> Shee
         place = found.after;
         k += 1;
     }
-    let sound = ends(sheet, place);
+    let sound = reader::ends(sheet, place);
     SheetFound { sound, index }
 }

@@ -1,7 +1,7 @@
--- Tests that say the same, and fields that reach past the end of a file.
-use Prim.Native.Nat.{ℕ, suc, _+_, _-_, _*_, _%_, _^_, _≤_, _<_}
-use mathlib.Core.Path.{_≡_, refl, sym, _∙_}
-use mathlib.Core.Bool.{Bool, true, false}
+-- Fields that reach past the end of a file, and how many of four are there.
+use Prim.Native.Nat.{ℕ, suc, _+_, _-_, _*_, _%_, _^_, _≤_}
+use mathlib.Core.Path.{_≡_, _∙_}
+use mathlib.Core.Bool.{true, false}
 use mathlib.Core.List.{List}
 use native.Mathlib.Nat.{add-zero, mod-eq-of-lt, lt-of-lt-of-le}
 use native.Mathlib.Omega.{arith}
@@ -11,19 +11,9 @@ use lib.Pow.{pow-mono}
 use lib.ListN.{length}
 use Rattle.bits.specs.Field.{field}
 use Rattle.source.specs.Source.{Whole}
+use Rattle.reader.proofs.Tests.{leb-same}
 use Rattle.bits.proofs.Bytes.{bit-past}
 use Rattle.bits.proofs.Fields.{field-split, field-zero, field-below}
-
-pub leb-same : (a b c d : ℕ) → (a ≤ b → c ≤ d) → (c ≤ d → a ≤ b) → leb a b ≡ leb c d
-leb-same a b c d to from = go (leb a b) refl
-  where
-    go : (t : Bool) → leb a b ≡ t → leb a b ≡ leb c d
-    go true e = e ∙ sym (le-leb c d (to (leb-true a b e)))
-    go false e = e ∙ sym (lt-leb c d (back (leb c d) refl))
-      where
-        back : (t : Bool) → leb c d ≡ t → d < c
-        back true q = let h = from (leb-true c d q) in let l = leb-false a b e in omega arith
-        back false q = leb-false c d q
 
 pub field-past : (s : List ℕ) (at w : ℕ) → 8 * length s ≤ at → field s at w ≡ 0
 field-past s at w h = field-zero s at w (λ p l m. bit-past s p (omega arith))

@@ -1,12 +1,13 @@
 -- Where the fields of a network come from: the bits of a file, or a list of numbers.
-use Prim.Native.Nat.{ℕ, suc, _+_, _-_, _*_}
+use Prim.Native.Nat.{ℕ, suc, _+_, _*_}
 use mathlib.Core.Path.{_≡_}
-use mathlib.Core.Bool.{Bool, true, false}
+use mathlib.Core.Bool.{Bool}
 use mathlib.Core.List.{List, [], _∷_}
 use lib.Dec.{T, leb, ltb, eqb}
 use lib.ListN.{length, getD}
 use Rattle.bits.specs.Field.{field}
-use Rattle.bits.specs.Packed.{bytesFor}
+use Rattle.reader.specs.File.{endsAt}
+pub use Rattle.reader.specs.File.{both}
 use Rattle.source.specs.declared.Fields.{Fields}
 use Rattle.source.specs.declared.Origin.{Origin}
 use Rattle.source.specs.declared.Origin.the-variants.{File, Numbers}
@@ -22,10 +23,6 @@ pub record Source : Type 0 where
   -- from this place on there is nothing but fill
   pub ends : ℕ → Bool
 
-abbrev pub both : Bool → Bool → Bool
-both true b = b
-both false b = false
-
 -- a file: the last byte is filled with zero bits, and nothing follows
 abbrev pub fileOf : List ℕ → Source
 fileOf s =
@@ -33,7 +30,7 @@ fileOf s =
       has = λ width at. leb (at + width) (8 * length s);
       value = λ width at. field s at width;
       after = λ width at. at + width;
-      ends = λ at. both (eqb (length s) (bytesFor at)) (eqb (field s at (8 * length s - at)) 0);
+      ends = λ at. endsAt s at;
     }
 
 -- a list of numbers: one for each field, whatever its width

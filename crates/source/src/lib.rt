@@ -2,7 +2,6 @@
 ghost use mathlib.Core.Path.{_≡_};
 ghost use mathlib.Core.List.{[], _∷_};
 ghost use Prim.Native.Nat.{_+_, _-_, _*_, _≤_};
-ghost use lib.Dec.{leb};
 ghost use lib.ListN.{length, getD};
 ghost use Rattle.bits.specs.Field.{field};
 ghost use Rattle.source.specs.Source.{sourceOf, fileOf, Whole, topWidths, headWidths, bandWidths, Fetched, Listed, HeadFields, BandFields};
@@ -23,28 +22,20 @@ pub struct Fields {
     pub after: usize,
 }
 
-// Are the `width` bits at bit `at` all there?
-fn there(net: &[u8], at: usize, width: usize) -> bool
-    requires { ⌜ (at ≤ 1000000) × (width ≤ 32) ⌝ }
-    ensures { λ r. ⌜ r ≡ leb (at + width) (8 * length (now (net .entry))) ⌝ }
-{
-    (at + width + 7) / 8 <= net.len()
-}
-
 // The field of `width` bits at bit `at`; bits past the end count as 0.
 fn padded(net: &[u8], at: usize, width: usize) -> u32
     requires { ⌜ (at ≤ 1000000) × (1 ≤ width) × (width ≤ 32) ⌝ }
     ensures { λ r. ⌜ r ≡ field (now (net .entry)) at width ⌝ }
 {
-    if there(net, at, width) {
-        return bits::take(net, at, width);
+    if reader::there(net, at, width) {
+        return reader::field(net, at, width);
     }
     let end = 8 * net.len();
     if end <= at {
         return 0;
     }
     let left = end - at;
-    bits::take(net, at, left) << (width - left)
+    reader::field(net, at, left) << (width - left)
 }
 
 // How many of four fields, which end so many bits after `at`, are there.
@@ -52,16 +43,16 @@ fn whole(net: &[u8], at: usize, first: usize, second: usize, third: usize, fourt
     requires { ⌜ (at ≤ 1000000) × (first ≤ second) × (second ≤ third) × (third ≤ fourth) × (fourth ≤ 32) ⌝ }
     ensures { λ r. ⌜ Whole (8 * length (now (net .entry))) at first second third fourth r ⌝ }
 {
-    if there(net, at, fourth) {
+    if reader::there(net, at, fourth) {
         return 4;
     }
-    if there(net, at, third) {
+    if reader::there(net, at, third) {
         return 3;
     }
-    if there(net, at, second) {
+    if reader::there(net, at, second) {
         return 2;
     }
-    if there(net, at, first) {
+    if reader::there(net, at, first) {
         return 1;
     }
     0
@@ -106,7 +97,7 @@ fn head_in_file(net: &[u8], at: usize) -> Fields
     if net.len() < at / 8 + 8 {
         return cut_head(net, at);
     }
-    let x = bits::take_inside(net, at, 28);
+    let x = reader::field(net, at, 28);
     Fields {
         have: 4,
         a: x / 0x40_0000,
@@ -141,7 +132,7 @@ fn band_in_file(net: &[u8], at: usize) -> Fields
     if net.len() < at / 8 + 8 {
         return cut_band(net, at);
     }
-    let x = bits::take_inside(net, at, 28);
+    let x = reader::field(net, at, 28);
     Fields {
         have: 4,
         a: x / 0x1_0000,
@@ -150,21 +141,6 @@ fn band_in_file(net: &[u8], at: usize) -> Fields
         d: 0,
         after: at + 28,
     }
-}
-
-// The last byte is filled with zero bits, and nothing follows.
-fn file_ends(net: &[u8], at: usize) -> bool
-    requires { ⌜ at ≤ 1000000 ⌝ }
-    ensures { λ r. ⌜ r ≡ fileOf (now (net .entry)) .ends at ⌝ }
-{
-    if net.len() != (at + 7) / 8 {
-        return false;
-    }
-    let fill = 8 * net.len() - at;
-    if fill == 0 {
-        return true;
-    }
-    bits::take(net, at, fill) == 0
 }
 
 // The number at a place of a list, 0 past its end.
@@ -234,7 +210,7 @@ pub fn ends(origin: Origin, net: &[u8], list: &[u32], at: usize) -> bool
     ensures { λ r. ⌜ r ≡ sourceOf origin (now (net .entry)) (now (list .entry)) .ends at ⌝ }
 {
     match origin {
-        Origin::File => file_ends(net, at),
+        Origin::File => reader::ends(net, at),
         Origin::Numbers => at == list.len(),
     }
 }

@@ -88,7 +88,7 @@ fn explains_at(
         × ReadsFrom (legAt (now net) places at) (now cells) (queryOf query) ⌝ }
     ensures { λ r. ⌜ Tells r (queryOf query) (cellAt (queryOf query) (now (cells .entry))) (legAt (now (net .entry)) places at) place (arrival .0) ⌝ }
 {
-    if bits::take(net, at as usize + 6, 6) != place {
+    if reader::field(net, at as usize + 6, 6) != place {
         return false;
     }
     explains(chart::leg_at(net, places, at), cells, query, place, arrival)

@@ -69,11 +69,11 @@ mul-chart c = search needs
 array-write-chart : tie.Need-array-write-chart Inv-loop μ-loop
 array-write-chart c = search needs
 
-add-take : tie.Need-add-take Inv-loop μ-loop
-add-take c = search needs
+add-field : tie.Need-add-field Inv-loop μ-loop
+add-field c = search needs
 
-take-requires : tie.Need-take-requires Inv-loop μ-loop
-take-requires c κs =
+field-requires : tie.Need-field-requires Inv-loop μ-loop
+field-requires c κs =
     let a = c .before .before .before .args in
     let l = c .before .loop in
     let sound = c .before .before .before .pre in
@@ -105,7 +105,7 @@ loop-again c =
     let sound = c .before .before .before .before .pre in
     let p = l .inv .3 (a .size) sound in
     let n = next (a .net .now) (a .size) (l .k) (l .place) (l .chart) sound (omega arith) p in
-    let there : l .place + (28 + 28 * c .take .result) ≡ n .end = omega (arith, n .ends .end-is, c .take .ensures) in (
+    let there : l .place + (28 + 28 * c .field .result) ≡ n .end = omega (arith, n .ends .end-is, c .field .ensures) in (
       omega arith,
       l .inv .1,
       omega (arith, n .near, there),
@@ -138,8 +138,8 @@ chart-spec =
     cast-chart
     mul-chart
     array-write-chart
-    add-take
-    take-requires
+    add-field
+    field-requires
     cast-bands
     mul-place
     add-place

@@ -16,42 +16,30 @@ use Rattle.gate.proofs.ride.Tie as tie
 
 -- the leg that was decoded is the network's
 this-leg : (c : tie.After-leg-at)
-    → c .leg-at .result ≡ legOf (c .before .before .before .before .before .before .before .before .args .net .now) (c .before .before .before .before .before .take .result)
+    → c .leg-at .result ≡ legOf (c .before .before .before .before .before .before .before .before .args .net .now) (c .before .before .before .before .before .pair .result .first)
 this-leg c =
     let a = c .before .before .before .before .before .before .before .before .args in
     let p = c .before .before .before .before .before .before .before .before .pre in
-    c .leg-at .ensures ∙ leg-is (a .net .now) (a .size) (a .chart .now) (p .0) (c .before .before .before .before .before .take .result) (c .before .before .if1 .left)
+    c .leg-at .ensures ∙ leg-is (a .net .now) (a .size) (a .chart .now) (p .0) (c .before .before .before .before .before .pair .result .first) (c .before .before .if1 .left)
 
 its-sound : (c : tie.After-leg-at)
     → SoundLeg (netAt (c .before .before .before .before .before .before .before .before .args .net .now) .places) (c .leg-at .result)
 its-sound c =
     let a = c .before .before .before .before .before .before .before .before .args in
     let p = c .before .before .before .before .before .before .before .before .pre in
-    rw (this-leg c) (leg-sound (a .net .now) (a .size) (a .chart .now) (p .0) (c .before .before .before .before .before .take .result) (c .before .before .if1 .left))
+    rw (this-leg c) (leg-sound (a .net .now) (a .size) (a .chart .now) (p .0) (c .before .before .before .before .before .pair .result .first) (c .before .before .if1 .left))
 
-mul-take : tie.Need-mul-take
-mul-take c = search needs
+mul-pair : tie.Need-mul-pair
+mul-pair c = search needs
 
-add-take : tie.Need-add-take
-add-take c = search needs
+add-pair : tie.Need-add-pair
+add-pair c = search needs
 
-take-requires : tie.Need-take-requires
-take-requires c κs = search needs
+pair-requires : tie.Need-pair-requires
+pair-requires c κs = search needs
 
 cast-number : tie.Need-cast-number
 cast-number c = search needs
-
-mul-take-2 : tie.Need-mul-take-2
-mul-take-2 c = search needs
-
-add-take-2 : tie.Need-add-take-2
-add-take-2 c = search needs
-
-add-take-3 : tie.Need-add-take-3
-add-take-3 c = search needs
-
-take-requires-2 : tie.Need-take-requires-2
-take-requires-2 c κs = search needs
 
 off-requires : tie.Need-off-requires
 off-requires c κs = search needs
@@ -61,20 +49,20 @@ returns c =
     let a = c .before .before .before .before .before .before .before .args in
     let n = a .net .now in
     rode-not (theoryAt n) (rideAt (a .plan .now) (a .k)) (a .state) (c .off .result) (c .off .ensures)
-    (λ b. omega (arith, b .known, c .before .before .before .before .take .ensures, c .before .if1 .taken, read n (a .size) (a .chart .now) (c .before .before .before .before .before .before .before .pre .0) .legs))
+    (λ b. omega (arith, b .known, c .before .before .before .before .pair .ensures .0, c .before .if1 .taken, read n (a .size) (a .chart .now) (c .before .before .before .before .before .before .before .pre .0) .legs))
 
 mul-leg-at : tie.Need-mul-leg-at
 mul-leg-at c =
-    let a = c .before .before .before .before .before .before .args in omega (arith, c .before .before .before .take .ensures, field-below (a .plan .now) (89 + 21 * a .k) 9)
+    let a = c .before .before .before .before .before .before .args in omega (arith, c .before .before .before .pair .ensures .0, field-below (a .plan .now) (89 + 21 * a .k) 9)
 
 element-copy-out-leg-at : tie.Need-element-copy-out-leg-at
 element-copy-out-leg-at c =
-    let a = c .before .before .before .before .before .before .args in omega (arith, c .before .before .before .take .ensures, field-below (a .plan .now) (89 + 21 * a .k) 9)
+    let a = c .before .before .before .before .before .before .args in omega (arith, c .before .before .before .pair .ensures .0, field-below (a .plan .now) (89 + 21 * a .k) 9)
 
 leg-at-requires : tie.Need-leg-at-requires
 leg-at-requires c κs =
     let a = c .before .before .before .before .before .before .before .args in
-    charted (a .net .now) (a .size) (a .chart .now) (c .before .before .before .before .before .before .before .pre .0) .near (c .before .before .before .before .take .result)
+    charted (a .net .now) (a .size) (a .chart .now) (c .before .before .before .before .before .before .before .pre .0) .near (c .before .before .before .before .pair .result .first)
 
 off-requires-2 : tie.Need-off-requires-2
 off-requires-2 c κs = search needs
@@ -84,7 +72,7 @@ returns-2 c =
     let a = c .before .before .before .before .before .before .before .before .before .before .before .before .args in
     let n = a .net .now in
     rode-not (theoryAt n) (rideAt (a .plan .now) (a .k)) (a .state) (c .off2 .result) (c .off2 .ensures)
-    (λ b. c .before .if2 .taken (ap (λ (x : Leg). x .from) (this-leg (c .before .before .before .before)) ∙ ap (λ (x : ℕ). legOf n x .from) (c .before .before .before .before .before .before .before .before .before .take .ensures) ∙ b .here))
+    (λ b. c .before .if2 .taken (ap (λ (x : Leg). x .from) (this-leg (c .before .before .before .before)) ∙ ap (λ (x : ℕ). legOf n x .from) (c .before .before .before .before .before .before .before .before .before .pair .ensures .0) ∙ b .here))
 
 off-requires-3 : tie.Need-off-requires-3
 off-requires-3 c κs = search needs
@@ -94,22 +82,22 @@ returns-3 c =
     let a = c .before .before .before .before .before .before .before .before .before .before .before .before .before .before .args in
     let n = a .net .now in
     rode-not (theoryAt n) (rideAt (a .plan .now) (a .k)) (a .state) (c .off3 .result) (c .off3 .ensures)
-    (λ b. omega (arith, b .after, c .before .before .before .before .before .before .before .before .before .before .take2 .ensures, c .before .if3 .taken))
+    (λ b. omega (arith, b .after, c .before .before .before .before .before .before .before .before .before .before .before .pair .ensures .1, c .before .if3 .taken))
 
 toll-at-requires : tie.Need-toll-at-requires
 toll-at-requires c κs =
     its-sound (c .before .before .before .before .before) .few-bands
 
-add-t11 : tie.Need-add-t11
-add-t11 c =
-    omega (arith, its-sound (c .before .before .before .before .before .before .before) .time-within, c .before .before .before .before .before .before .before .before .before .before .before .take2 .ensures, field-below (c .before .before .before .before .before .before .before .before .before .before .before .before .before .before .before .args .plan .now) (89 + 21 * c .before .before .before .before .before .before .before .before .before .before .before .before .before .before .before .args .k + 9) 12)
+add-t17 : tie.Need-add-t17
+add-t17 c =
+    omega (arith, its-sound (c .before .before .before .before .before .before .before) .time-within, c .before .before .before .before .before .before .before .before .before .before .before .before .pair .ensures .1, field-below (c .before .before .before .before .before .before .before .before .before .before .before .before .before .before .before .args .plan .now) (89 + 21 * c .before .before .before .before .before .before .before .before .before .before .before .before .before .before .before .args .k + 9) 12)
 
 cast-t19 : tie.Need-cast-t19
 cast-t19 c = search needs
 
 add-t20 : tie.Need-add-t20
 add-t20 c =
-    omega (arith, c .before .before .before .toll-at .ensures, toll-small _ _ (c .before .before .before .before .before .before .before .before .before .before .before .before .before .take2 .result) (its-sound (c .before .before .before .before .before .before .before .before .before)), c .before .before .before .before .before .before .before .before .before .before .before .before .before .before .before .before .before .pre .3)
+    omega (arith, c .before .before .before .toll-at .ensures, toll-small _ _ (c .before .before .before .before .before .before .before .before .before .before .before .before .before .before .pair .result .second) (its-sound (c .before .before .before .before .before .before .before .before .before)), c .before .before .before .before .before .before .before .before .before .before .before .before .before .before .before .before .before .pre .3)
 
 returns-4 : tie.Need-returns-4
 returns-4 c =
@@ -117,11 +105,11 @@ returns-4 c =
     let n = a .net .now in
     let w = c .before .before .before .before .before .before .before .before .before in
     let leg = c .before .before .before .before .before .before .before .before .before .leg-at .result in
-    let number = c .before .before .before .before .before .before .before .before .before .before .before .before .before .before .take .ensures in
-    let when = c .before .before .before .before .before .before .before .before .before .before .before .before .before .take2 .ensures in
+    let number = c .before .before .before .before .before .before .before .before .before .before .before .before .before .before .pair .ensures .0 in
+    let when = c .before .before .before .before .before .before .before .before .before .before .before .before .before .before .pair .ensures .1 in
     let low : rideAt (a .plan .now) (a .k) .leg < length (netAt n .legs) = omega (arith, number, c .before .before .before .before .before .before .before .before .before .before .before .if1 .left, read n (a .size) (a .chart .now) (c .before .before .before .before .before .before .before .before .before .before .before .before .before .before .before .before .before .pre .0) .legs) in
     let toll = c .before .before .before .toll-at in
-    let small = toll-small _ _ (c .before .before .before .before .before .before .before .before .before .before .before .before .before .take2 .result) (its-sound w) in
+    let small = toll-small _ _ (c .before .before .before .before .before .before .before .before .before .before .before .before .before .before .pair .result .second) (its-sound w) in
     rw when
     (rode-on n (rideAt (a .plan .now) (a .k)) (a .state) leg (toll .result .0) (this-leg w ∙ ap (λ (x : ℕ). legOf n x) number) low (c .before .before .before .before .before .before .if2 .left)
     (omega (arith, when, c .before .before .before .before .if3 .left)) (toll .ensures ∙ ap (λ (t : ℕ). tollAt leg t) when) (omega (arith, toll .ensures, small)))
@@ -130,14 +118,10 @@ pub ride-spec : {M : Type 1} → statement M
 ride-spec =
     tie.close
     (tie.spec
-    mul-take
-    add-take
-    take-requires
+    mul-pair
+    add-pair
+    pair-requires
     cast-number
-    mul-take-2
-    add-take-2
-    add-take-3
-    take-requires-2
     off-requires
     returns
     mul-leg-at
@@ -148,7 +132,7 @@ ride-spec =
     off-requires-3
     returns-3
     toll-at-requires
-    add-t11
+    add-t17
     cast-t19
     add-t20
     returns-4)

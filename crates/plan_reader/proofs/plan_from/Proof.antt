@@ -17,8 +17,8 @@ returns c =
     let s = c .before .before .before .args .plan .now in
     told-no s (c .no-plan .result) (c .no-plan .ensures) (λ f h. omega (arith, says-long s f h, c .before .if1 .taken))
 
-take-requires : tie.Need-take-requires
-take-requires c κs = search needs
+field-requires : tie.Need-field-requires
+field-requires c κs = search needs
 
 no-plan-requires-2 : tie.Need-no-plan-requires-2
 no-plan-requires-2 c κs = search needs
@@ -26,7 +26,7 @@ no-plan-requires-2 c κs = search needs
 returns-2 : tie.Need-returns-2
 returns-2 c =
     let s = c .before .before .before .before .before .args .plan .now in
-    told-no s (c .no-plan2 .result) (c .no-plan2 .ensures) (λ f h. c .before .if2 .taken (c .before .before .take .ensures ∙ says-edition s f h))
+    told-no s (c .no-plan2 .result) (c .no-plan2 .ensures) (λ f h. c .before .if2 .taken (c .before .before .field .ensures ∙ says-edition s f h))
 
 head-requires : tie.Need-head-requires
 head-requires c κs = search needs
@@ -57,9 +57,6 @@ returns-5 c =
     let d = c .before .before .before .before .before .before .before .head .ensures in
     told-no s (c .no-plan5 .result) (c .no-plan5 .ensures) (λ f h. c .before .if6 .taken (d .legs ∙ says-legs s f h (sym (d .verdict) ∙ c .before .before .before .before .if4 .taken)))
 
-slice-aggregate-ends : tie.Need-slice-aggregate-ends
-slice-aggregate-ends c = search needs
-
 mul-ends : tie.Need-mul-ends
 mul-ends c = search needs
 
@@ -71,25 +68,25 @@ ends-requires c κs = search needs
 
 returns-6 : tie.Need-returns-6
 returns-6 c =
-    let s = c .before .before .before .before .before .before .before .before .before .before .before .args .plan .now in
-    let r = c .before .before .before .before .before .before .head in
+    let s = c .before .before .before .before .before .before .before .before .before .before .args .plan .now in
+    let r = c .before .before .before .before .before .head in
     let d = r .ensures in
-    let price : r .result .verdict ≡ 0 → r .result .cost .0 ≡ 0 = λ z. ⊎-elim (λ w. w .2 .left) (λ w. absurd (w .left z)) (c .before .before .before .if4 .came) in
-    let legs : r .result .verdict ≡ 0 → r .result .legs ≡ 0 = λ z. ⊎-elim (λ w. w .3 .left) (λ w. absurd (w .left z)) (c .before .before .before .if4 .came) in
+    let price : r .result .verdict ≡ 0 → r .result .cost .0 ≡ 0 = λ z. ⊎-elim (λ w. w .2 .left) (λ w. absurd (w .left z)) (c .before .before .if4 .came) in
+    let legs : r .result .verdict ≡ 0 → r .result .legs ≡ 0 = λ z. ⊎-elim (λ w. w .3 .left) (λ w. absurd (w .left z)) (c .before .before .if4 .came) in
     told-yes s (r .result) d
-    (says-here s (sym (c .before .before .before .before .before .before .before .before .take .ensures) ∙ c .before .before .before .before .before .before .before .if2 .left) (omega (arith, d .legs, c .before .before .before .before .before .if3 .left))
+    (says-here s (sym (c .before .before .before .before .before .before .before .field .ensures) ∙ c .before .before .before .before .before .before .if2 .left) (omega (arith, d .legs, c .before .before .before .before .if3 .left))
     (λ z. sym (d .cost) ∙ price (d .verdict ∙ z))
     (λ z. sym (d .legs) ∙ legs (d .verdict ∙ z))
     (ap (λ (n : ℕ). fileOf s .ends (89 + 21 * n)) (sym (d .legs)) ∙ sym (c .before .ends .ensures) ∙ c .if7 .taken)
-    (λ i. omega (arith, c .before .before .before .before .before .before .before .before .before .before .shared-slice-known .given i)))
+    (λ i. omega (arith, c .before .before .before .before .before .before .before .before .before .shared-slice-known .given i)))
 
 no-plan-requires-6 : tie.Need-no-plan-requires-6
 no-plan-requires-6 c κs = search needs
 
 returns-7 : tie.Need-returns-7
 returns-7 c =
-    let s = c .before .before .before .before .before .before .before .before .before .before .before .before .args .plan .now in
-    let d = c .before .before .before .before .before .before .before .head .ensures in
+    let s = c .before .before .before .before .before .before .before .before .before .before .before .args .plan .now in
+    let d = c .before .before .before .before .before .before .head .ensures in
     told-no s (c .no-plan6 .result) (c .no-plan6 .ensures)
     (λ f h.
     let e : true ≡ false = sym (says-ends s f h) ∙ ap (λ (n : ℕ). fileOf s .ends (89 + 21 * n)) (sym (d .legs)) ∙ sym (c .before .before .ends .ensures) ∙ c .before .if7 .left in
@@ -102,7 +99,7 @@ plan-from-spec =
     (tie.spec
     no-plan-requires
     returns
-    take-requires
+    field-requires
     no-plan-requires-2
     returns-2
     head-requires
@@ -112,7 +109,6 @@ plan-from-spec =
     returns-4
     no-plan-requires-5
     returns-5
-    slice-aggregate-ends
     mul-ends
     add-ends
     ends-requires

@@ -21,36 +21,30 @@ mul-at c = search needs
 add-at : tie.Need-add-at
 add-at c = search needs
 
-take-requires : tie.Need-take-requires
-take-requires c κs = search needs
+pair-requires : tie.Need-pair-requires
+pair-requires c κs = search needs
 
 cast-leg : tie.Need-cast-leg
 cast-leg c = search needs
-
-add-take : tie.Need-add-take
-add-take c = search needs
-
-take-requires-2 : tie.Need-take-requires-2
-take-requires-2 c κs = search needs
 
 mul-leg-at : tie.Need-mul-leg-at
 mul-leg-at c = search needs
 
 element-copy-out-leg-at : tie.Need-element-copy-out-leg-at
 element-copy-out-leg-at c =
-    omega (arith, c .before .take .ensures, leg-in-chart (c .before .before .before .before .before .before .args .net .now) (c .before .before .before .before .before .before .args .size) (c .before .before .before .before .before .before .args .plan .now) (queryOf (c .before .before .before .before .before .before .args .query)) (c .before .before .before .before .before .before .args .count) (c .before .before .before .before .before .before .args .count - 1) (omega (arith, c .before .before .if1 .left)) (c .before .before .before .before .before .before .pre .1))
+    omega (arith, c .before .pair .ensures .0, leg-in-chart (c .before .before .before .before .before .before .args .net .now) (c .before .before .before .before .before .before .args .size) (c .before .before .before .before .before .before .args .plan .now) (queryOf (c .before .before .before .before .before .before .args .query)) (c .before .before .before .before .before .before .args .count) (c .before .before .before .before .before .before .args .count - 1) (omega (arith, c .before .before .if1 .left)) (c .before .before .before .before .before .before .pre .1))
 
 leg-at-requires : tie.Need-leg-at-requires
 leg-at-requires c κs =
-    stands-near (c .before .before .before .before .before .before .before .args .net .now) (c .before .before .before .before .before .before .before .args .size) (c .before .before .before .before .before .before .before .args .plan .now) (queryOf (c .before .before .before .before .before .before .before .args .query)) (c .before .before .before .before .before .before .before .args .chart .now) (c .before .before .before .before .before .before .before .pre .0) (c .before .before .before .before .before .before .before .args .count) (c .before .before .before .before .before .before .before .args .count - 1) (omega (arith, c .before .before .before .if1 .left)) (c .before .before .before .before .before .before .before .pre .1) _ (c .before .before .take .ensures)
+    stands-near (c .before .before .before .before .before .before .before .args .net .now) (c .before .before .before .before .before .before .before .args .size) (c .before .before .before .before .before .before .before .args .plan .now) (queryOf (c .before .before .before .before .before .before .before .args .query)) (c .before .before .before .before .before .before .before .args .chart .now) (c .before .before .before .before .before .before .before .pre .0) (c .before .before .before .before .before .before .before .args .count) (c .before .before .before .before .before .before .before .args .count - 1) (omega (arith, c .before .before .before .if1 .left)) (c .before .before .before .before .before .before .before .pre .1) _ (c .before .before .pair .ensures .0)
 
 add-result : tie.Need-add-result
 add-result c =
-    omega (arith, small-sum (c .before .before .before .before .before .before .before .before .before .before .args .net .now) (c .before .before .before .before .before .before .before .before .before .before .args .size) (c .before .before .before .before .before .before .before .before .before .before .args .plan .now) (queryOf (c .before .before .before .before .before .before .before .before .before .before .args .query)) (c .before .before .before .before .before .before .before .before .before .before .args .chart .now) (c .before .before .before .before .before .before .before .before .before .before .pre .0) (c .before .before .before .before .before .before .before .before .before .before .args .count) (c .before .before .before .before .before .before .before .before .before .before .args .count - 1) (omega (arith, c .before .before .before .before .before .before .if1 .left)) (c .before .before .before .before .before .before .before .before .before .before .pre .1) _ (c .before .before .before .before .before .take .ensures) _ (c .before .before .before .before .take2 .ensures) _ (c .before .before .leg-at .ensures))
+    omega (arith, small-sum (c .before .before .before .before .before .before .before .before .before .before .args .net .now) (c .before .before .before .before .before .before .before .before .before .before .args .size) (c .before .before .before .before .before .before .before .before .before .before .args .plan .now) (queryOf (c .before .before .before .before .before .before .before .before .before .before .args .query)) (c .before .before .before .before .before .before .before .before .before .before .args .chart .now) (c .before .before .before .before .before .before .before .before .before .before .pre .0) (c .before .before .before .before .before .before .before .before .before .before .args .count) (c .before .before .before .before .before .before .before .before .before .before .args .count - 1) (omega (arith, c .before .before .before .before .before .before .if1 .left)) (c .before .before .before .before .before .before .before .before .before .before .pre .1) _ (c .before .before .before .before .before .pair .ensures .0) _ (c .before .before .before .before .before .pair .ensures .1) _ (c .before .before .leg-at .ensures))
 
 returns-2 : tie.Need-returns-2
 returns-2 c =
-    arrives-then (c .before .before .before .before .before .before .before .before .before .before .args .net .now) (c .before .before .before .before .before .before .before .before .before .before .args .size) (c .before .before .before .before .before .before .before .before .before .before .args .plan .now) (queryOf (c .before .before .before .before .before .before .before .before .before .before .args .query)) (c .before .before .before .before .before .before .before .before .before .before .args .chart .now) (c .before .before .before .before .before .before .before .before .before .before .pre .0) (c .before .before .before .before .before .before .before .before .before .before .args .count) (c .before .before .before .before .before .before .before .before .before .before .args .count - 1) (omega (arith, c .before .before .before .before .before .before .if1 .left)) (c .before .before .before .before .before .before .before .before .before .before .pre .1) _ (c .before .before .before .before .before .take .ensures) _ (c .before .before .before .before .take2 .ensures) _ (c .before .before .leg-at .ensures)
+    arrives-then (c .before .before .before .before .before .before .before .before .before .before .args .net .now) (c .before .before .before .before .before .before .before .before .before .before .args .size) (c .before .before .before .before .before .before .before .before .before .before .args .plan .now) (queryOf (c .before .before .before .before .before .before .before .before .before .before .args .query)) (c .before .before .before .before .before .before .before .before .before .before .args .chart .now) (c .before .before .before .before .before .before .before .before .before .before .pre .0) (c .before .before .before .before .before .before .before .before .before .before .args .count) (c .before .before .before .before .before .before .before .before .before .before .args .count - 1) (omega (arith, c .before .before .before .before .before .before .if1 .left)) (c .before .before .before .before .before .before .before .before .before .before .pre .1) _ (c .before .before .before .before .before .pair .ensures .0) _ (c .before .before .before .before .before .pair .ensures .1) _ (c .before .before .leg-at .ensures)
 
 pub arrival-after-spec : {M : Type 1} → statement M
 arrival-after-spec =
@@ -60,10 +54,8 @@ arrival-after-spec =
     sub-at
     mul-at
     add-at
-    take-requires
+    pair-requires
     cast-leg
-    add-take
-    take-requires-2
     mul-leg-at
     element-copy-out-leg-at
     leg-at-requires

@@ -18,8 +18,8 @@ returns : tie.Need-returns
 returns c =
     let e = c .before .before .answer-line .ensures in (report-short (c .before .before .before .before .before .before .before .before .before .args .input .now) (length (c .before .before .before .before .before .before .before .before .before .args .table .now)) _ (c .before .before .before .before .if1 .taken) (e .reads), e .fits)
 
-take-requires : tie.Need-take-requires
-take-requires c κs = search needs
+field-requires : tie.Need-field-requires
+field-requires c κs = search needs
 
 answer-line-requires-2 : tie.Need-answer-line-requires-2
 answer-line-requires-2 c κs = search needs
@@ -30,21 +30,21 @@ same-length-2 c = search needs
 returns-2 : tie.Need-returns-2
 returns-2 c =
     let e = c .before .before .answer-line2 .ensures in (
-      report-fill (c .before .before .before .before .before .before .before .before .before .before .before .args .input .now) (length (c .before .before .before .before .before .before .before .before .before .before .before .args .table .now)) _ (c .before .before .before .before .before .before .if1 .left) (λ z. c .before .before .before .before .if2 .taken (c .before .before .before .before .before .take .ensures ∙ z)) (e .reads),
+      report-fill (c .before .before .before .before .before .before .before .before .before .before .before .args .input .now) (length (c .before .before .before .before .before .before .before .before .before .before .before .args .table .now)) _ (c .before .before .before .before .before .before .if1 .left) (λ z. c .before .before .before .before .if2 .taken (c .before .before .before .before .before .field .ensures ∙ z)) (e .reads),
       e .fits,
     )
 
-take-requires-2 : tie.Need-take-requires-2
-take-requires-2 c κs = search needs
+field-requires-2 : tie.Need-field-requires-2
+field-requires-2 c κs = search needs
 
-take-requires-3 : tie.Need-take-requires-3
-take-requires-3 c κs = search needs
+field-requires-3 : tie.Need-field-requires-3
+field-requires-3 c κs = search needs
 
-take-requires-4 : tie.Need-take-requires-4
-take-requires-4 c κs = search needs
+field-requires-4 : tie.Need-field-requires-4
+field-requires-4 c κs = search needs
 
-take-requires-5 : tie.Need-take-requires-5
-take-requires-5 c κs = search needs
+field-requires-5 : tie.Need-field-requires-5
+field-requires-5 c κs = search needs
 
 latest-of-requires : tie.Need-latest-of-requires
 latest-of-requires c κs = search needs
@@ -73,8 +73,8 @@ same-length-5 c = search needs
 returns-3 : tie.Need-returns-3
 returns-3 c =
     let e = c .before .before .before .before .before .before .net-text .ensures in (
-      report-net (c .before .before .before .before .before .before .before .before .before .before .before .before .before .before .before .before .before .before .before .before .before .before .before .args .input .now) (length (c .before .before .before .before .before .before .before .before .before .before .before .before .before .before .before .before .before .before .before .before .before .before .before .args .table .now)) _ _ (rest-is (c .before .before .before .before .before .before .before .before .before .before .before .before .before .before .before .before .before .before .before .before .before .before .before .args .input .now)) (c .before .before .before .before .before .before .before .before .before .before .before .before .before .before .before .before .before .before .if1 .left) (sym (c .before .before .before .before .before .before .before .before .before .before .before .before .before .before .before .before .before .take .ensures) ∙ c .before .before .before .before .before .before .before .before .before .before .before .before .before .before .before .before .if2 .left) _
-          (c .before .before .before .before .before .before .before .before .before .before .before .before .before .before .before .take2 .ensures) (c .before .before .before .before .before .before .before .before .before .before .before .before .before .before .take3 .ensures) (c .before .before .before .before .before .before .before .before .before .before .before .before .before .take4 .ensures) (c .before .before .before .before .before .before .before .before .before .before .before .latest-of .ensures ∙ ap latestOf (c .before .before .before .before .before .before .before .before .before .before .before .before .take5 .ensures)) (e .0),
+      report-net (c .before .before .before .before .before .before .before .before .before .before .before .before .before .before .before .before .before .before .before .before .before .before .before .args .input .now) (length (c .before .before .before .before .before .before .before .before .before .before .before .before .before .before .before .before .before .before .before .before .before .before .before .args .table .now)) _ _ (rest-is (c .before .before .before .before .before .before .before .before .before .before .before .before .before .before .before .before .before .before .before .before .before .before .before .args .input .now)) (c .before .before .before .before .before .before .before .before .before .before .before .before .before .before .before .before .before .before .if1 .left) (sym (c .before .before .before .before .before .before .before .before .before .before .before .before .before .before .before .before .before .field .ensures) ∙ c .before .before .before .before .before .before .before .before .before .before .before .before .before .before .before .before .if2 .left) _
+          (c .before .before .before .before .before .before .before .before .before .before .before .before .before .before .before .field2 .ensures) (c .before .before .before .before .before .before .before .before .before .before .before .before .before .before .field3 .ensures) (c .before .before .before .before .before .before .before .before .before .before .before .before .before .field4 .ensures) (c .before .before .before .before .before .before .before .before .before .before .before .latest-of .ensures ∙ ap latestOf (c .before .before .before .before .before .before .before .before .before .before .before .before .field5 .ensures)) (e .0),
       e .1,
     )
 
@@ -85,14 +85,14 @@ report-spec =
     answer-line-requires
     same-length
     returns
-    take-requires
+    field-requires
     answer-line-requires-2
     same-length-2
     returns-2
-    take-requires-2
-    take-requires-3
-    take-requires-4
-    take-requires-5
+    field-requires-2
+    field-requires-3
+    field-requires-4
+    field-requires-5
     latest-of-requires
     sub-net-text
     part-net-text-start

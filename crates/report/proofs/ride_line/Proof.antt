@@ -13,22 +13,16 @@ mul-place c = search needs
 add-place : tie.Need-add-place
 add-place c = search needs
 
-take-requires : tie.Need-take-requires
-take-requires c κs = search needs
-
-add-take : tie.Need-add-take
-add-take c = search needs
-
-take-requires-2 : tie.Need-take-requires-2
-take-requires-2 c κs = search needs
+pair-requires : tie.Need-pair-requires
+pair-requires c κs = search needs
 
 arrival-after-requires : tie.Need-arrival-after-requires
 arrival-after-requires c κs =
-    (c .before .before .before .before .before .pre .0, ridden-less (c .before .before .before .before .before .args .net .now) (c .before .before .before .before .before .args .size) (c .before .before .before .before .before .args .plan .now) (queryOf (c .before .before .before .before .before .args .query)) (c .before .before .before .before .before .args .k + 1) (c .before .before .before .before .before .args .k) (omega arith) (c .before .before .before .before .before .pre .1))
+    (c .before .before .before .before .pre .0, ridden-less (c .before .before .before .before .args .net .now) (c .before .before .before .before .args .size) (c .before .before .before .before .args .plan .now) (queryOf (c .before .before .before .before .args .query)) (c .before .before .before .before .args .k + 1) (c .before .before .before .before .args .k) (omega arith) (c .before .before .before .before .pre .1))
 
 sub-leg-line : tie.Need-sub-leg-line
 sub-leg-line c =
-    omega (arith, last-ride (c .before .before .before .before .before .before .before .args .net .now) (c .before .before .before .before .before .before .before .args .size) (c .before .before .before .before .before .before .before .args .plan .now) (queryOf (c .before .before .before .before .before .before .before .args .query)) (c .before .before .before .before .before .before .before .args .k + 1) (c .before .before .before .before .before .before .before .args .k) (omega arith) (c .before .before .before .before .before .before .before .pre .1) .after, c .before .arrival-after .ensures, c .before .before .take2 .ensures)
+    omega (arith, last-ride (c .before .before .before .before .before .before .args .net .now) (c .before .before .before .before .before .before .args .size) (c .before .before .before .before .before .before .args .plan .now) (queryOf (c .before .before .before .before .before .before .args .query)) (c .before .before .before .before .before .before .args .k + 1) (c .before .before .before .before .before .before .args .k) (omega arith) (c .before .before .before .before .before .before .pre .1) .after, c .before .arrival-after .ensures, c .before .before .pair .ensures .1)
 
 leg-line-requires : tie.Need-leg-line-requires
 leg-line-requires c κs = search needs
@@ -39,7 +33,7 @@ same-length c = search needs
 returns : tie.Need-returns
 returns c =
     let e = c .before .before .leg-line .ensures in (
-      ride-said _ _ _ _ _ _ _ _ _ _ (c .before .before .before .before .before .before .take .ensures) (c .before .before .before .before .before .take2 .ensures) (c .before .before .before .before .arrival-after .ensures) (e .0),
+      ride-said _ _ _ _ _ _ _ _ _ _ (c .before .before .before .before .before .pair .ensures .0) (c .before .before .before .before .before .pair .ensures .1) (c .before .before .before .before .arrival-after .ensures) (e .0),
       e .1,
     )
 
@@ -49,9 +43,7 @@ ride-line-spec =
     (tie.spec
     mul-place
     add-place
-    take-requires
-    add-take
-    take-requires-2
+    pair-requires
     arrival-after-requires
     sub-leg-line
     leg-line-requires

@@ -10,24 +10,24 @@ use Rattle.rule_b.proofs.begin.Tie as tie
 add-at : tie.Need-add-at
 add-at c = search needs
 
-take-requires : tie.Need-take-requires
-take-requires c κs = search needs
+field-requires : tie.Need-field-requires
+field-requires c κs = search needs
 
 cast-left : tie.Need-cast-left
 cast-left c = search needs
 
 first-requires : tie.Need-first-requires
 first-requires c κs =
-    omega (arith, c .take .ensures, c .before .before .pre)
+    omega (arith, c .field .ensures, c .before .before .pre)
 
 returns : tie.Need-returns
 returns c =
     let a = c .before .before .before .args in
     record {
-      held = record { inside = omega (arith, c .before .take .ensures, c .before .before .before .pre); near = omega (arith, c .before .take .ensures, field-below (a .sheet .now) (a .place) 12, c .before .before .before .fits .place); next-is = c .first .ensures };
-      all = ap (λ (n : ℕ). stepsAt (a .sheet .now) (a .place + 12) n) (c .before .take .ensures);
+      held = record { inside = omega (arith, c .before .field .ensures, c .before .before .before .pre); near = omega (arith, c .before .field .ensures, field-below (a .sheet .now) (a .place) 12, c .before .before .before .fits .place); next-is = c .first .ensures };
+      all = ap (λ (n : ℕ). stepsAt (a .sheet .now) (a .place + 12) n) (c .before .field .ensures);
       nothing = refl;
     }
 
 pub begin-spec : {M : Type 1} → statement M
-begin-spec = tie.close (tie.spec add-at take-requires cast-left first-requires returns)
+begin-spec = tie.close (tie.spec add-at field-requires cast-left first-requires returns)

@@ -28,14 +28,14 @@ loop-holds : tie.Need-loop-holds Inv-loop μ-loop
 loop-holds c =
     (c .before .pre .0, c .before .pre .1, λ q ss r. r)
 
-add-take : tie.Need-add-take Inv-loop μ-loop
-add-take c =
+add-field : tie.Need-add-field Inv-loop μ-loop
+add-field c =
     let l = c .before .loop in
     let some = some-left (c .before .before .before .args .sheet .now) (cursorOf (l .at) (l .left) (l .next) (l .has) (l .price)) (l .inv .0) (omega (arith, c .loop-test .taken, l .inv .1)) in
     omega (arith, some, l .inv .0 .near)
 
-take-requires : tie.Need-take-requires Inv-loop μ-loop
-take-requires c κs =
+field-requires : tie.Need-field-requires Inv-loop μ-loop
+field-requires c κs =
     let l = c .before .loop in
     let some = some-left (c .before .before .before .args .sheet .now) (cursorOf (l .at) (l .left) (l .next) (l .has) (l .price)) (l .inv .0) (omega (arith, c .loop-test .taken, l .inv .1)) in
     (omega arith, omega arith, omega (arith, some, l .inv .0 .inside))
@@ -72,10 +72,10 @@ loop-again c =
     let some = some-left s old (l .inv .0) (omega (arith, c .before .before .loop-test .taken, l .inv .1)) in
     let more : l .left ≡ Prim.Native.Nat.suc (l .left - 1) = omega (arith, some) in
     let due : field s (l .at) 12 ≤ c .before .before .before .before .before .args .minute = omega (arith, l .inv .0 .next-is, first-some s (l .at) (l .left) some, c .before .before .loop-test .taken) in
-    let new = cursorOf (l .at + 44) (l .left - 1) (c .first .result) true (c .before .take .result) in (
+    let new = cursorOf (l .at + 44) (l .left - 1) (c .first .result) true (c .before .field .result) in (
       record { inside = omega (arith, some, l .inv .0 .inside); near = omega (arith, some, l .inv .0 .near); next-is = c .first .ensures },
       l .inv .1,
-      λ q ss r. reached-more s q ss (c .before .before .before .before .before .args .minute) old new (l .left - 1) more due refl refl refl (c .before .take .ensures) (l .inv .2 q ss r),
+      λ q ss r. reached-more s q ss (c .before .before .before .before .before .args .minute) old new (l .left - 1) more due refl refl refl (c .before .field .ensures) (l .inv .2 q ss r),
     )
 
 returns : tie.Need-returns Inv-loop μ-loop
@@ -89,8 +89,8 @@ forward-spec =
     Inv-loop
     μ-loop
     loop-holds
-    add-take
-    take-requires
+    add-field
+    field-requires
     add-at
     sub-left
     first-requires

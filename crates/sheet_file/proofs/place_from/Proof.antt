@@ -21,8 +21,8 @@ returns c =
     let e : leb (a .at + 12) (8 * length (a .sheet .now)) ≡ false = sym (c .before .there .ensures) ∙ not-true _ (c .if1 .taken) in
     record { tested = place-short (a .sheet .now) (a .at) (window (a .earliest) (a .latest)) e; near = omega arith; after = λ v. cc }
 
-take-requires : tie.Need-take-requires
-take-requires c κs =
+field-requires : tie.Need-field-requires
+field-requires c κs =
     let a = c .before .before .before .args in
     let e = leb-true (a .at + 12) (8 * length (a .sheet .now)) (sym (c .before .there .ensures) ∙ not-false _ (c .if1 .left)) in
     (omega arith, omega arith, omega arith)
@@ -33,7 +33,7 @@ cast-count c = search needs
 returns-2 : tie.Need-returns-2
 returns-2 c =
     let a = c .before .before .before .before .before .args in
-    record { tested = place-many (a .sheet .now) (a .at) (window (a .earliest) (a .latest)) (omega (arith, c .before .take .ensures, c .if2 .taken)); near = omega arith; after = λ v. cc }
+    record { tested = place-many (a .sheet .now) (a .at) (window (a .earliest) (a .latest)) (omega (arith, c .before .field .ensures, c .if2 .taken)); near = omega arith; after = λ v. cc }
 
 add-steps-sound : tie.Need-add-steps-sound
 add-steps-sound c = search needs
@@ -54,10 +54,10 @@ returns-3 : tie.Need-returns-3
 returns-3 c =
     let a = c .before .before .before .before .before .before .args in
     let e : leb (a .at + 12) (8 * length (a .sheet .now)) ≡ true = sym (c .before .before .before .before .there .ensures) ∙ not-false _ (c .before .before .before .if1 .left) in
-    let n = c .before .before .take .ensures in
+    let n = c .before .before .field .ensures in
     let few : field (a .sheet .now) (a .at) 12 ≤ 2880 = omega (arith, n, c .before .if2 .left) in
     record {
-      tested = tested-is (a .sheet .now) (a .at) (window (a .earliest) (a .latest)) (c .steps-sound .result) (c .before .before .take .result) n
+      tested = tested-is (a .sheet .now) (a .at) (window (a .earliest) (a .latest)) (c .steps-sound .result) (c .before .before .field .result) n
           (place-steps (a .sheet .now) (a .at) (window (a .earliest) (a .latest)) e few) (c .steps-sound .ensures);
       near = omega (arith, n, few);
       after = λ v. omega (arith, n);
@@ -69,7 +69,7 @@ place-from-spec =
     (tie.spec
     there-requires
     returns
-    take-requires
+    field-requires
     cast-count
     returns-2
     add-steps-sound

@@ -22,38 +22,29 @@ returns c =
     let e : leb (a .at + 44) (8 * length (a .sheet .now)) ≡ false = sym (c .before .before .there .ensures) ∙ not-true _ (c .before .if1 .taken) in
     rw (c .no-step .ensures) (record { tested = step-short (a .sheet .now) (a .at) (a .low) (a .latest) (a .limit) e; values = λ v. cc })
 
-take-requires : tie.Need-take-requires
-take-requires c κs =
+pair-requires : tie.Need-pair-requires
+pair-requires c κs =
     let a = c .before .before .before .args in
     let e = leb-true (a .at + 44) (8 * length (a .sheet .now)) (sym (c .before .there .ensures) ∙ not-false _ (c .if1 .left)) in
-    (omega arith, omega arith, omega arith)
-
-add-take : tie.Need-add-take
-add-take c = search needs
-
-take-requires-2 : tie.Need-take-requires-2
-take-requires-2 c κs =
-    let a = c .before .before .before .before .args in
-    let e = leb-true (a .at + 44) (8 * length (a .sheet .now)) (sym (c .before .before .there .ensures) ∙ not-false _ (c .before .if1 .left)) in
-    (omega arith, omega arith, omega arith)
+    omega arith
 
 no-step-requires-2 : tie.Need-no-step-requires-2
 no-step-requires-2 c κs = search needs
 
 returns-2 : tie.Need-returns-2
 returns-2 c =
-    let a = c .before .before .before .before .before .before .before .args in
+    let a = c .before .before .before .before .before .before .args in
     rw (c .no-step2 .ensures)
-    (record { tested = step-low (a .sheet .now) (a .at) (a .low) (a .latest) (a .limit) (omega (arith, c .before .before .before .take .ensures, c .before .if2 .taken)); values = λ v. cc })
+    (record { tested = step-low (a .sheet .now) (a .at) (a .low) (a .latest) (a .limit) (omega (arith, c .before .before .pair .ensures .0, c .before .if2 .taken)); values = λ v. cc })
 
 no-step-requires-3 : tie.Need-no-step-requires-3
 no-step-requires-3 c κs = search needs
 
 returns-3 : tie.Need-returns-3
 returns-3 c =
-    let a = c .before .before .before .before .before .before .before .before .args in
+    let a = c .before .before .before .before .before .before .before .args in
     rw (c .no-step3 .ensures)
-    (record { tested = step-late (a .sheet .now) (a .at) (a .low) (a .latest) (a .limit) (omega (arith, c .before .before .before .before .take .ensures, c .before .if3 .taken)); values = λ v. cc })
+    (record { tested = step-late (a .sheet .now) (a .at) (a .low) (a .latest) (a .limit) (omega (arith, c .before .before .before .pair .ensures .0, c .before .if3 .taken)); values = λ v. cc })
 
 cast-if4 : tie.Need-cast-if4
 cast-if4 c = search needs
@@ -63,18 +54,18 @@ no-step-requires-4 c κs = search needs
 
 returns-4 : tie.Need-returns-4
 returns-4 c =
-    let a = c .before .before .before .before .before .before .before .before .before .args in
+    let a = c .before .before .before .before .before .before .before .before .args in
     rw (c .no-step4 .ensures)
-    (record { tested = step-dear (a .sheet .now) (a .at) (a .low) (a .latest) (a .limit) (omega (arith, c .before .before .before .before .take2 .ensures, c .before .if4 .taken)); values = λ v. cc })
+    (record { tested = step-dear (a .sheet .now) (a .at) (a .low) (a .latest) (a .limit) (omega (arith, c .before .before .before .before .pair .ensures .1, c .before .if4 .taken)); values = λ v. cc })
 
 returns-5 : tie.Need-returns-5
 returns-5 c =
-    let a = c .before .before .before .before .before .before .before .before .args in
-    let e : leb (a .at + 44) (8 * length (a .sheet .now)) ≡ true = sym (c .before .before .before .before .before .before .there .ensures) ∙ not-false _ (c .before .before .before .before .before .if1 .left) in
+    let a = c .before .before .before .before .before .before .before .args in
+    let e : leb (a .at + 44) (8 * length (a .sheet .now)) ≡ true = sym (c .before .before .before .before .before .there .ensures) ∙ not-false _ (c .before .before .before .before .if1 .left) in
     record {
-      tested = step-sound (a .sheet .now) (a .at) (a .low) (a .latest) (a .limit) e (omega (arith, c .before .before .before .before .take .ensures, c .before .before .if2 .left))
-          (omega (arith, c .before .before .before .before .take .ensures, c .before .if3 .left)) (omega (arith, c .before .before .before .take2 .ensures, c .if4 .left));
-      values = λ v. cc (c .before .before .before .before .take .ensures, c .before .before .before .take2 .ensures);
+      tested = step-sound (a .sheet .now) (a .at) (a .low) (a .latest) (a .limit) e (omega (arith, c .before .before .before .pair .ensures .0, c .before .before .if2 .left))
+          (omega (arith, c .before .before .before .pair .ensures .0, c .before .if3 .left)) (omega (arith, c .before .before .before .pair .ensures .1, c .if4 .left));
+      values = λ v. cc (c .before .before .before .pair .ensures .0, c .before .before .before .pair .ensures .1);
     }
 
 pub step-from-spec : {M : Type 1} → statement M
@@ -84,9 +75,7 @@ step-from-spec =
     there-requires
     no-step-requires
     returns
-    take-requires
-    add-take
-    take-requires-2
+    pair-requires
     no-step-requires-2
     returns-2
     no-step-requires-3

@@ -19,8 +19,8 @@ returns c =
     let e : leb 15 (8 * length (a .sheet .now)) ≡ false = sym (c .before .there .ensures) ∙ not-true _ (c .if1 .taken) in
     top-short (a .sheet .now) (a .places) e
 
-take-requires : tie.Need-take-requires
-take-requires c κs =
+field-requires : tie.Need-field-requires
+field-requires c κs =
     let a = c .before .before .before .args in
     let e = leb-true 15 (8 * length (a .sheet .now)) (sym (c .before .there .ensures) ∙ not-false _ (c .if1 .left)) in
     (omega arith, omega arith, omega arith)
@@ -28,10 +28,10 @@ take-requires c κs =
 returns-2 : tie.Need-returns-2
 returns-2 c =
     let a = c .before .before .before .before .before .args in
-    top-edition (a .sheet .now) (a .places) (λ h. c .if2 .taken (c .before .take .ensures ∙ h))
+    top-edition (a .sheet .now) (a .places) (λ h. c .if2 .taken (c .before .field .ensures ∙ h))
 
-take-requires-2 : tie.Need-take-requires-2
-take-requires-2 c κs =
+field-requires-2 : tie.Need-field-requires-2
+field-requires-2 c κs =
     let a = c .before .before .before .before .before .args in
     let e = leb-true 15 (8 * length (a .sheet .now)) (sym (c .before .before .before .there .ensures) ∙ not-false _ (c .before .before .if1 .left)) in
     (omega arith, omega arith, omega arith)
@@ -40,8 +40,8 @@ returns-3 : tie.Need-returns-3
 returns-3 c =
     let a = c .before .before .before .before .before .before .args in
     let e : leb 15 (8 * length (a .sheet .now)) ≡ true = sym (c .before .before .before .before .there .ensures) ∙ not-false _ (c .before .before .before .if1 .left) in
-    top-places (a .sheet .now) (a .places) _ e (omega (arith, c .before .before .take .ensures, c .before .if2 .left)) (ap (λ x. lib.Dec.eqb x (a .places)) (c .take2 .ensures))
+    top-places (a .sheet .now) (a .places) _ e (omega (arith, c .before .before .field .ensures, c .before .if2 .left)) (ap (λ x. lib.Dec.eqb x (a .places)) (c .field2 .ensures))
 
 pub top-sound-spec : {M : Type 1} → statement M
 top-sound-spec =
-    tie.close (tie.spec there-requires returns take-requires returns-2 take-requires-2 returns-3)
+    tie.close (tie.spec there-requires returns field-requires returns-2 field-requires-2 returns-3)

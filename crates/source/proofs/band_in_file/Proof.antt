@@ -17,8 +17,8 @@ cut-band-requires c κs = search needs
 returns : tie.Need-returns
 returns c = search needs
 
-take-inside-requires : tie.Need-take-inside-requires
-take-inside-requires c κs = search needs
+field-requires : tie.Need-field-requires
+field-requires c κs = search needs
 
 add-t4 : tie.Need-add-t4
 add-t4 c = search needs
@@ -28,8 +28,8 @@ returns-2 c =
     let a = c .before .before .before .args in
     let end = 8 * length (a .net .now) in
     let all = whole-four end (a .at) 12 28 28 28 (omega arith, omega arith, omega arith) (le-leb (a .at + 28) end (omega arith)) in
-    file-band (a .net .now) (a .at) (c .take-inside .result) 4 all (c .take-inside .ensures)
+    file-band (a .net .now) (a .at) (c .field .result) 4 all (c .field .ensures)
 
 pub band-in-file-spec : {M : Type 1} → statement M
 band-in-file-spec =
-    tie.close (tie.spec add-if1 cut-band-requires returns take-inside-requires add-t4 returns-2)
+    tie.close (tie.spec add-if1 cut-band-requires returns field-requires add-t4 returns-2)

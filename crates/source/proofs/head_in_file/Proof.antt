@@ -17,8 +17,8 @@ cut-head-requires c κs = search needs
 returns : tie.Need-returns
 returns c = search needs
 
-take-inside-requires : tie.Need-take-inside-requires
-take-inside-requires c κs = search needs
+field-requires : tie.Need-field-requires
+field-requires c κs = search needs
 
 add-t4 : tie.Need-add-t4
 add-t4 c = search needs
@@ -28,8 +28,8 @@ returns-2 c =
     let a = c .before .before .before .args in
     let end = 8 * length (a .net .now) in
     let all = whole-four end (a .at) 6 12 24 28 (omega arith, omega arith, omega arith) (le-leb (a .at + 28) end (omega arith)) in
-    file-head (a .net .now) (a .at) (c .take-inside .result) 4 all (c .take-inside .ensures)
+    file-head (a .net .now) (a .at) (c .field .result) 4 all (c .field .ensures)
 
 pub head-in-file-spec : {M : Type 1} → statement M
 head-in-file-spec =
-    tie.close (tie.spec add-if1 cut-head-requires returns take-inside-requires add-t4 returns-2)
+    tie.close (tie.spec add-if1 cut-head-requires returns field-requires add-t4 returns-2)

@@ -11,8 +11,8 @@ use Rattle.source.proofs.padded.Tie as tie
 there-requires : tie.Need-there-requires
 there-requires c κs = search needs
 
-take-requires : tie.Need-take-requires
-take-requires c κs =
+field-requires : tie.Need-field-requires
+field-requires c κs =
     let pre = c .before .before .before .pre in
     (pre .1, pre .2, leb-true _ _ (sym (c .before .there .ensures) ∙ c .if1 .taken))
 
@@ -34,8 +34,8 @@ returns-2 c = sym (field-past _ _ _ (c .if2 .taken))
 sub-left : tie.Need-sub-left
 sub-left c = search needs
 
-take-requires-2 : tie.Need-take-requires-2
-take-requires-2 c κs = omega (arith, short (c .before))
+field-requires-2 : tie.Need-field-requires-2
+field-requires-2 c κs = omega (arith, short (c .before))
 
 sub-result : tie.Need-sub-result
 sub-result c = omega (arith, short (c .before .before))
@@ -50,19 +50,19 @@ returns-3 : tie.Need-returns-3
 returns-3 c =
     let a = c .before .before .before .before .before .args in
     let cut = short (c .before .before) in
-    rw (c .take2 .ensures) (field-shifted (a .net .now) (a .at) (8 * length (a .net .now) - a .at) (a .width) (omega arith) (omega arith) (omega arith))
+    rw (c .field2 .ensures) (field-shifted (a .net .now) (a .at) (8 * length (a .net .now) - a .at) (a .width) (omega arith) (omega arith) (omega arith))
 
 pub padded-spec : {M : Type 1} → statement M
 padded-spec =
     tie.close
     (tie.spec
     there-requires
-    take-requires
+    field-requires
     returns
     mul-end
     returns-2
     sub-left
-    take-requires-2
+    field-requires-2
     sub-result
     cast-result
     shl-result

@@ -19,11 +19,11 @@ returns-2 c =
     subst (λ (l : Leg). Tells (c .explains .result) (queryOf (a .query)) (cellAt (queryOf (a .query)) (a .cells .now)) l (a .place) (a .arrival .0))
     (c .before .leg-at .ensures) (c .explains .ensures)
 
-add-take : tie.Need-add-take
-add-take c = search needs
+add-field : tie.Need-add-field
+add-field c = search needs
 
-take-requires : tie.Need-take-requires
-take-requires c κs = search needs
+field-requires : tie.Need-field-requires
+field-requires c κs = search needs
 
 leg-at-requires : tie.Need-leg-at-requires
 leg-at-requires c κs = search needs
@@ -38,4 +38,4 @@ explains-requires c κs =
 
 pub explains-at-spec : {M : Type 1} → statement M
 explains-at-spec =
-    tie.close (tie.spec add-take take-requires returns leg-at-requires explains-requires returns-2)
+    tie.close (tie.spec add-field field-requires returns leg-at-requires explains-requires returns-2)
