@@ -78,20 +78,20 @@ fn put_steps(row: &[u32], earliest: Minute, out: &mut [u8], at: usize) -> u32
 {
     let mut was = NO_COST;
     let mut count = 0;
-    let mut k = 0;
-    while k < row.len() {
-        let cost = row[k] / 64;
+    let mut column = 0;
+    while column < row.len() {
+        let cost = row[column] / 64;
         if cost < was {
             put_step(
                 out,
                 at + 44 * count as usize,
-                Minute(earliest.0 + k as u32),
+                Minute(earliest.0 + column as u32),
                 Cents(cost),
             );
             was = cost;
             count += 1;
         }
-        k += 1;
+        column += 1;
     }
     count
 }
