@@ -24,15 +24,16 @@ use Rattle.plan.proofs.Order.{less-then-le}
 use Rattle.plan_file.specs.PlanFile.{PlanFile, planBytes, FileOf, mostLegs, Allowed}
 use Rattle.plan_file.proofs.Files.{plan-size}
 use Rattle.plan_reader.specs.InPlace.{Says}
-use Rattle.plan_call.specs.declared.Judgement.{Judgement}
-use Rattle.plan_call.specs.declared.Judgement.the-variants.{Serve, Refuse}
-use Rattle.plan_call.specs.Judge.{judgement, with-network, judged}
-use Rattle.plan_call.specs.Call.{Right, plan, none, Output, Answered, Comes}
-use Rattle.plan_call.proofs.Judging.{Passed, passed}
+use Rattle.tabled.specs.declared.Judgement.{Judgement}
+use Rattle.tabled.specs.declared.Judgement.the-variants.{Serve, Refuse}
+use Rattle.tabled.specs.Judge.{judgement, with-network, judged}
+use Rattle.tabled.specs.Comes.{Comes}
+use Rattle.tabled.proofs.Judging.{Passed, passed}
+use Rattle.plan_call.specs.Call.{Right, plan, none, Output, Answered}
 use Rattle.sheet_file.specs.SheetFile.{sheetOf}
 use Rattle.sheet_file.specs.Fields.{sheetFields, sheetBytes, FileOf as SheetFileOf}
 use Rattle.sheet_file.proofs.ReadsBack.{sheet-reads-back}
-use Rattle.sheet_call.specs.Sheet.{Right as SheetRight, some, none as no-plan, Output as SheetOutput, Answered as SheetAnswered, Comes as SheetComes}
+use Rattle.sheet_call.specs.Sheet.{Right as SheetRight, some, none as no-plan, Output as SheetOutput, Answered as SheetAnswered}
 use Rattle.gate.specs.Gate.{theory, Known, GateSays}
 use Rattle.gate.proofs.Theorems.{askable, least-accepted, none-accepted}
 use Rattle.accord.specs.Accord.{Front, Wrote, OursAccepted}
@@ -132,15 +133,15 @@ module _ (net : List ℕ) (q : Query) (plan-file sheet-file : List ℕ) (r : Ans
   module _ (table₁ table₁′ out₁ out₁′ : List ℕ) (answer₁ : PlanAnswer) (w₁ : Wrote answer₁ out₁′ plan-file)
       (table₂ table₂′ out₂ out₂′ : List ℕ) (answer₂ : PlanAnswer) (w₂ : Wrote answer₂ out₂′ sheet-file) where
     by-network : (x : Found NetworkFile) → ofFile net ≡ x
-        → Comes (judged x q (length table₁)) q table₁ table₁′ out₁ out₁′ answer₁
-        → SheetComes (judged x q (length table₂)) q table₂ table₂′ out₂ out₂′ answer₂
+        → Comes Answered (judged x q (length table₁)) q table₁ table₁′ out₁ out₁′ answer₁
+        → Comes SheetAnswered (judged x q (length table₂)) q table₂ table₂′ out₂ out₂′ answer₂
         → r ≡ Answer.Done 0
     by-network (refused why) is c d = wrote-none answer₁ why out₁′ plan-file (c .answer-is) w₁
     by-network (found n end) is c d = by-judgement (judgement (n .places) q (length table₁)) (judgement (n .places) q (length table₂)) refl c d
       where
         by-judgement : (i j : Judgement) → judgement (n .places) q (length table₁) ≡ i
-            → Comes (with-network i (theory n)) q table₁ table₁′ out₁ out₁′ answer₁
-            → SheetComes (with-network j (theory n)) q table₂ table₂′ out₂ out₂′ answer₂
+            → Comes Answered (with-network i (theory n)) q table₁ table₁′ out₁ out₁′ answer₁
+            → Comes SheetAnswered (with-network j (theory n)) q table₂ table₂′ out₂ out₂′ answer₂
             → r ≡ Answer.Done 0
         by-judgement (Refuse why) j e c d = wrote-none answer₁ why out₁′ plan-file (c .answer-is) w₁
         by-judgement Serve (Refuse why) e c d = wrote-none answer₂ why out₂′ sheet-file (d .answer-is) w₂

@@ -9,9 +9,8 @@ use lib.ListN.{length, drop}
 use Rattle.answer.specs.declared.PlanAnswer.{PlanAnswer}
 use Rattle.answer.specs.declared.Refusal.the-variants.{Room}
 use Rattle.network.specs.declared.Size.{Size}
-use Rattle.plan.specs.Network.{Minute, Network, Query, Within}
+use Rattle.plan.specs.Network.{Minute, Network, Query}
 use Rattle.plan.specs.Table.{noPlan, cellAt}
-use Rattle.plan.proofs.Standing.{at-end}
 use Rattle.plan.proofs.Named.{none-feasible}
 use Rattle.chart.specs.Chart.{Chart}
 use Rattle.plan_file.specs.declared.Query.{Query as Asked}
@@ -19,9 +18,9 @@ use Rattle.plan_file.specs.PlanFile.{PlanFile, queryOf, planBytes, planFile, no
 use Rattle.plan_file.proofs.Files.{plan-size}
 use Rattle.walk.specs.Cells.{InTable, FirstLike}
 use Rattle.walk.specs.Walk.{netOf, Ending, NamedFile}
-use Rattle.walk.proofs.Nets.{in-table}
+use Rattle.tabled.specs.Tabled.{Tabled}
+use Rattle.tabled.proofs.Serving.{cell-in}
 use Rattle.plan_call.specs.Call.{Right, plan, none, Answered}
-use Rattle.plan_call.specs.Tabled.{Tabled}
 use Rattle.plan_call.proofs.Lengths.{named-there, named-legs}
 
 -- without room nothing is written
@@ -46,12 +45,6 @@ room N q out bytes file given right is n size h =
     }
 
 module _ (s : List ℕ) (size : Size) (a : Asked) (cells : List ℕ) (k : Tabled s size a cells) where
-  pub cell-in : (p : ℕ) (t : Minute) → Within (netOf s) (queryOf a) p t → InTable cells (queryOf a) p t
-  cell-in p t win = in-table s size (k .servable .sound) (queryOf a) cells (omega (arith, k .room)) (k .servable .last) p t win
-
-  pub end-in : InTable cells (queryOf a) (a .end) (a .latest .0)
-  end-in = cell-in (a .end) (a .latest .0) (at-end (netOf s) (queryOf a) (k .servable .asked))
-
   -- no plan at latest: none is feasible
   pub none-right : cellAt (queryOf a) cells (a .end) (a .latest .0) ≡ noPlan → Right (netOf s) (queryOf a) (noneFile (queryOf a)) PlanAnswer.NoPlan
   none-right e = none (none-feasible (netOf s) (queryOf a) (k .servable .asked) (cellAt (queryOf a) cells) (k .table) e)
@@ -59,7 +52,7 @@ module _ (s : List ℕ) (size : Size) (a : Asked) (cells : List ℕ) (k : Tabled
   module _ (n : cellAt (queryOf a) cells (a .end) (a .latest .0) ≢ noPlan) (t : Minute)
       (f : FirstLike (queryOf a) (cellAt (queryOf a) cells) (a .end) 64 (a .latest .0) t) where
     pub arrival-in : InTable cells (queryOf a) (a .end) t
-    arrival-in = cell-in (a .end) t (record { place = k .servable .asked .goal; early = f .early; late = f .late })
+    arrival-in = cell-in s size a cells k (a .end) t (record { place = k .servable .asked .goal; early = f .early; late = f .late })
 
     pub ending : (chart : List ℕ) → Chart s chart → Ending s chart cells size a t
     ending chart h =
@@ -71,7 +64,7 @@ module _ (s : List ℕ) (size : Size) (a : Asked) (cells : List ℕ) (k : Tabled
                 asked = k .servable .asked;
                 last = k .servable .last;
                 table = k .table;
-                room = omega (arith, k .room);
+                room = k .room;
               };
           plan = n;
           first = f;

@@ -1,3 +1,1 @@
-pub mod Judge
 pub mod Call
-pub mod Tabled

@@ -27,9 +27,10 @@ use Rattle.plan.proofs.Named.{named-fits}
 use Rattle.plan_file.specs.PlanFile.{PlanFile, rideOf, planBytes, planFile, FileOf}
 use Rattle.plan_file.proofs.Files.{plan-size, plan-head, plan-rides}
 use Rattle.walk.specs.Walk.{netOf}
-use Rattle.plan_call.specs.Judge.{Judged, refuse, serve, judged}
-use Rattle.plan_call.specs.Call.{Right, plan, none, Output, Answered, Comes, Plans}
-use Rattle.plan_call.proofs.Judging.{judged-refused, comes-to}
+use Rattle.tabled.specs.Judge.{Judged, refuse, serve, judged}
+use Rattle.tabled.specs.Comes.{Comes}
+use Rattle.tabled.proofs.Judging.{judged-refused, comes-to}
+use Rattle.plan_call.specs.Call.{Right, plan, none, Output, Answered, Plans}
 use Rattle.text.specs.Text.{Adds}
 use Rattle.report.specs.Rides.{ridesIn, Ridden}
 use Rattle.report.specs.Report.{answerText, costText, arriveText, ridesText, Shows, shown, nothing, Prints, latestOf, queryIn, Whole, Reports}
@@ -114,11 +115,11 @@ module _ (s : List ℕ) (q : Query) (table table′ out out′ : List ℕ) (lent
       at : ((why : Refusal) × (judged (ofFile s) q (length table) ≡ refuse why)) ⊎ ((judged (ofFile s) q (length table) ≡ serve (netOf s)) × Askable (netOf s) q)
           → (judged (ofFile s) q (length table) ≡ serve (netOf s)) × Told (netOf s) q out′
       at (inl (why, j)) =
-          let u = subst (λ (x : Judged). Comes x q table table′ out out′ answer) j (p .comes) in
+          let u = subst (λ (x : Judged). Comes Answered x q table table′ out out′ answer) j (p .comes) in
           let f = u .answer-is in
           let z : _≡_ {A = ℕ} 0 1 = cc in absurd (omega arith)
       at (inr (j, asked)) =
-          let u = subst (λ (x : Judged). Comes x q table table′ out out′ answer) j (p .comes) in
+          let u = subst (λ (x : Judged). Comes Answered x q table table′ out out′ answer) j (p .comes) in
           let d = data-in (netOf s) q asked out out′ lent answer (u .answered) in
           (j, done (netOf s) q asked out out′ lent n (d .0) (d .1) _ (d .2) (sym e ∙ d .3) (d .4))
 
@@ -129,11 +130,11 @@ module _ (s : List ℕ) (q : Query) (table table′ out out′ : List ℕ) (lent
       at : ((why : Refusal) × (judged (ofFile s) q (length table) ≡ refuse why)) ⊎ ((judged (ofFile s) q (length table) ≡ serve (netOf s)) × Askable (netOf s) q)
           → Prints (judged (ofFile s) q (length table)) q (answerText 10)
       at (inl (why, j)) =
-          let u = subst (λ (x : Judged). Comes x q table table′ out out′ answer) j (p .comes) in
+          let u = subst (λ (x : Judged). Comes Answered x q table table′ out out′ answer) j (p .comes) in
           let f = u .answer-is in
           let z : _≡_ {A = ℕ} 0 1 = cc in absurd (omega arith)
       at (inr (j, asked)) =
-          let u = subst (λ (x : Judged). Comes x q table table′ out out′ answer) j (p .comes) in
+          let u = subst (λ (x : Judged). Comes Answered x q table table′ out out′ answer) j (p .comes) in
           let d = data-in (netOf s) q asked out out′ lent answer (u .answered) in
           subst (λ (x : Judged). Prints x q (answerText 10)) (sym j)
           (nothing (not-done (netOf s) q asked out out′ lent n (d .0) (d .1) _ (d .2) (sym e ∙ d .3)))
@@ -145,12 +146,12 @@ module _ (s : List ℕ) (q : Query) (table table′ out out′ : List ℕ) (lent
       at : ((w : Refusal) × (judged (ofFile s) q (length table) ≡ refuse w)) ⊎ ((judged (ofFile s) q (length table) ≡ serve (netOf s)) × Askable (netOf s) q)
           → Prints (judged (ofFile s) q (length table)) q (answerText (numberOf why))
       at (inl (w, j)) =
-          let u = subst (λ (x : Judged). Comes x q table table′ out out′ answer) j (p .comes) in
+          let u = subst (λ (x : Judged). Comes Answered x q table table′ out out′ answer) j (p .comes) in
           let f = u .answer-is in
           let same : why ≡ w = cc in
           subst (λ (x : Judged). Prints x q (answerText (numberOf why))) (sym j) (ap (λ (x : Refusal). answerText (numberOf x)) same)
       at (inr (j, asked)) =
-          let u = subst (λ (x : Judged). Comes x q table table′ out out′ answer) j (p .comes) in
+          let u = subst (λ (x : Judged). Comes Answered x q table table′ out out′ answer) j (p .comes) in
           let d = data-in (netOf s) q asked out out′ lent answer (u .answered) in
           absurd (no-refusal (netOf s) q asked out out′ lent why (d .0) (d .1) _ (d .2) (sym e ∙ d .3))
 

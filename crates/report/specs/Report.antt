@@ -11,8 +11,8 @@ use Rattle.network.specs.Network.{ofFile}
 use Rattle.plan.specs.Network.{Minute, Network, Query}
 use Rattle.plan.specs.Plan.{Ride, arrival, cost, Feasible}
 use Rattle.plan.specs.Tie.{Named}
-use Rattle.plan_call.specs.Judge.{Judged, refuse, serve, judged}
-use Rattle.plan_call.specs.Call.{asking}
+use Rattle.tabled.specs.Judge.{Judged, refuse, serve, judged}
+use Rattle.tabled.specs.Comes.{asking}
 use Rattle.text.specs.Text.{item, line}
 
 -- `answer N`

@@ -9,7 +9,7 @@ ghost use Rattle.chart.specs.Chart.{Chart};
 ghost use Rattle.plan.specs.Plan.{arrival};
 ghost use Rattle.plan_file.specs.PlanFile.{queryOf};
 ghost use Rattle.walk.specs.Walk.{netOf};
-ghost use Rattle.plan_call.specs.Judge.{judged};
+ghost use Rattle.tabled.specs.Judge.{judged};
 ghost use Rattle.text.specs.Text.{Adds};
 ghost use Rattle.report.specs.Report.{answerText, costText, arriveText, legText, ridesText, latestOf, Prints, Reports};
 ghost use Rattle.report.specs.Rides.{ridesIn, Ridden};

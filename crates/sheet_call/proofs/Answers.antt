@@ -23,9 +23,9 @@ use Rattle.plan_file.specs.declared.Query.{Query as Asked}
 use Rattle.plan_file.specs.PlanFile.{queryOf}
 use Rattle.plan_file.specs.Puts.{Puts}
 use Rattle.plan_file.proofs.Puts.{puts-one, puts-then, puts-packed}
-use Rattle.plan_call.specs.Tabled.{Servable, Tabled}
 use Rattle.walk.specs.Walk.{netOf}
 use Rattle.walk.proofs.Nets.{places-are, few-places}
+use Rattle.tabled.specs.Tabled.{Tabled}
 use Rattle.sheet_call.specs.Rows.{sheetIn}
 use Rattle.sheet_file.specs.Fields.{placesFields, sheetBytes, FileOf}
 use Rattle.sheet_call.specs.Sheet.{Right, some, none, Answered}
@@ -62,21 +62,16 @@ room N q out bytes sheet ours given right is n size h =
       output-is = rw fits (bytes, is, ap (λ (k : ℕ). bytes ++ drop k out) (size ∙ sym (is .size)));
     }
 
-pub table-of : (s : List ℕ) (size : Size) (a : Asked) → Servable s size a → (cells : List ℕ) → length cells ≡ size .places * width (queryOf a)
-    → Table cells (width (queryOf a)) (size .places)
-table-of s size a h cells long =
-    record { few = few-places s size (h .sound); narrow = omega (arith, h .last); all = omega (arith, long) }
-
 module _ (s : List ℕ) (size : Size) (a : Asked) (cells : List ℕ) (k : Tabled s size a cells) where
-  there : List (List Step)
-  there = sheetIn cells (width (queryOf a)) (a .earliest .0) (size .places)
+  pub rows : Table cells (width (queryOf a)) (size .places)
+  rows = record { few = few-places s size (k .servable .sound); narrow = omega (arith, k .servable .last); all = k .room }
 
   ours : OurSheet (netOf s) (queryOf a) (sheetIn cells (width (queryOf a)) (a .earliest .0) (size .places))
   ours =
       let n = places-are s size (k .servable .sound) in
       subst (λ (p : ℕ). OurSheet (netOf s) (queryOf a) (sheetIn cells (width (queryOf a)) (a .earliest .0) p)) n
       (our-sheet (netOf s) (queryOf a) (k .servable .asked) cells
-      (subst (λ (p : ℕ). p * width (queryOf a) ≤ length cells) (sym n) (omega (arith, k .room))) (k .table))
+      (subst (λ (p : ℕ). p * width (queryOf a) ≤ length cells) (sym n) (k .room)) (k .table))
 
   right-none : cellAt (queryOf a) cells (a .end) (a .latest .0) ≡ noPlan → Right (netOf s) (queryOf a) PlanAnswer.NoPlan
   right-none e = none (none-feasible (netOf s) (queryOf a) (k .servable .asked) (cellAt (queryOf a) cells) (k .table) e)

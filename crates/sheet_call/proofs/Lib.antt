@@ -2,5 +2,4 @@ pub mod Stepping
 pub mod Rows
 pub mod Turns
 pub mod Answers
-pub mod Serving
 pub mod Once

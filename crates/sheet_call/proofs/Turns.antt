@@ -27,9 +27,10 @@ pub record Counting (row : List ℕ) (was : Cents) (count k : ℕ) : Type 0 wher
   pub few : count ≤ k
   pub rest : (t : Minute) → count + length (stepsFrom (t + k) was (drop k row)) ≡ length (stepsOf t row)
 
-pub counting-none : (row : List ℕ) → Counting row noCost 0 0
-counting-none row =
-    record { within = omega arith; few = omega arith; rest = λ t. omega (arith, ap (λ (ss : List Step). length ss) (from-start row t noCost 0)) }
+pub counting-none : (row : List ℕ) (k : ℕ) → k ≡ 0 → Counting row noCost 0 k
+counting-none row k is =
+    subst (Counting row noCost 0) (sym is)
+    (record { within = omega arith; few = omega arith; rest = λ t. omega (arith, ap (λ (ss : List Step). length ss) (from-start row t noCost 0)) })
 
 module _ (row : List ℕ) (was : Cents) (count k : ℕ) (c : Counting row was count k) where
   pub counting-done : length row ≤ k → Counted row count
@@ -37,20 +38,21 @@ module _ (row : List ℕ) (was : Cents) (count k : ℕ) (c : Counting row was co
       record { few = omega (arith, c .few, c .within); count = λ t. omega (arith, c .rest t, ap (λ (ss : List Step). length ss) (from-end row t was k h)) }
 
   module _ (h : k < length row) where
-    pub counting-lower : getD row k 0 / 64 < was → Counting row (getD row k 0 / 64) (count + 1) (k + 1)
-    counting-lower l =
-        record {
+    pub counting-lower : (cost : Cents) → cost ≡ getD row k 0 / 64 → cost < was → Counting row cost (count + 1) (k + 1)
+    counting-lower cost is l =
+        subst (λ (x : Cents). Counting row x (count + 1) (k + 1)) (sym is)
+        (record {
           within = omega arith;
           few = omega (arith, c .few);
-          rest = λ t. omega (arith, c .rest t, ap (λ (ss : List Step). length ss) (from-lower row t was k h l));
-        }
+          rest = λ t. omega (arith, c .rest t, ap (λ (ss : List Step). length ss) (from-lower row t was k h (omega (arith, is, l))));
+        })
 
-    pub counting-same : was ≤ getD row k 0 / 64 → Counting row was count (k + 1)
-    counting-same l =
+    pub counting-same : (cost : Cents) → cost ≡ getD row k 0 / 64 → was ≤ cost → Counting row was count (k + 1)
+    counting-same cost is l =
         record {
           within = omega arith;
           few = omega (arith, c .few);
-          rest = λ t. omega (arith, c .rest t, ap (λ (ss : List Step). length ss) (from-same row t was k h l));
+          rest = λ t. omega (arith, c .rest t, ap (λ (ss : List Step). length ss) (from-same row t was k h (omega (arith, is, l))));
         }
 
     -- a step is left
@@ -66,18 +68,19 @@ pub record Putting (row : List ℕ) (t : Minute) (first : List ℕ) (at : ℕ) (
   pub byte : (i : ℕ) → getD out i 0 < 256
 
 module _ (row : List ℕ) (t : Minute) (first : List ℕ) (at : ℕ) where
-  pub putting-none : ((i : ℕ) → getD first i 0 < 256) → Putting row t first at first noCost 0 0
-  putting-none byte =
+  pub putting-none : ((i : ℕ) → getD first i 0 < 256) → (k : ℕ) → k ≡ 0 → Putting row t first at first noCost 0 k
+  putting-none byte k is =
       let here : at ≡ at + 44 * 0 = omega arith in
-      record {
-        counting = counting-none row;
+      subst (Putting row t first at first noCost 0) (sym is)
+      (record {
+        counting = counting-none row 0 refl;
         left =
             subst (λ (ss : List Step). Left first first at (at + 44 * 0) (stepsFields ss) (stepsFields (stepsOf t row))) (sym (from-start row t noCost 0))
             (subst (λ (n : ℕ). Left first first at n (stepsFields (stepsOf t row)) (stepsFields (stepsOf t row))) here
             (left-all first at (stepsFields (stepsOf t row))));
         long = refl;
         byte = byte;
-      }
+      })
 
   module _ (out : List ℕ) (was : Cents) (count k : ℕ) (c : Putting row t first at out was count k) where
     pub putting-done : length row ≤ k → Puts first out at (stepsFields (stepsOf t row))
@@ -91,7 +94,7 @@ module _ (row : List ℕ) (t : Minute) (first : List ℕ) (at : ℕ) where
       pub putting-same : was ≤ getD row k 0 / 64 → Putting row t first at out was count (k + 1)
       putting-same l =
           record {
-            counting = counting-same row was count k (c .counting) h l;
+            counting = counting-same row was count k (c .counting) h _ refl l;
             left =
                 subst (λ (ss : List Step). Left first out at (at + 44 * count) (stepsFields ss) (stepsFields (stepsOf t row)))
                 (from-same row t was k h l) (c .left);
@@ -111,7 +114,7 @@ module _ (row : List ℕ) (t : Minute) (first : List ℕ) (at : ℕ) where
           let rest = stepsFrom (t + (k + 1)) (getD row k 0 / 64) (drop (k + 1) row) in
           let split = ap stepsFields (from-lower row t was k h l) ∙ fields-more s rest in
           record {
-            counting = counting-lower row was count k (c .counting) h l;
+            counting = counting-lower row was count k (c .counting) h _ refl l;
             left =
                 subst (λ (n : ℕ). Left first next at n (stepsFields rest) (stepsFields (stepsOf t row))) on
                 (left-more (stepFields s)

@@ -3,13 +3,10 @@ use Prim.Native.Nat.{ℕ, _+_, _*_, _≤_, _<_}
 use mathlib.Core.Path.{_≡_}
 use mathlib.Core.List.{List}
 use lib.ListN.{length, getD}
-use Rattle.answer.specs.declared.PlanAnswer.{PlanAnswer}
 use Rattle.bits.specs.Packed.{Entry, bitsOf}
-use Rattle.plan.specs.Network.{Minute, Network, Query}
-use Rattle.plan.specs.Table.{cellAt, MinuteTable}
+use Rattle.plan.specs.Network.{Minute}
 use Rattle.sheet_call.specs.Rows.{stepsOf, sheetIn}
 use Rattle.sheet_file.specs.Fields.{sheetBytes}
-use Rattle.sheet_call.specs.Sheet.{Answered}
 
 -- how many steps a row has, whatever its first minute
 pub record Counted (row : List ℕ) (r : ℕ) : Type 0 where
@@ -32,9 +29,3 @@ pub record Table (cells : List ℕ) (w n : ℕ) : Type 0 where
 pub record Weighed (cells : List ℕ) (w n r : ℕ) : Type 0 where
   pub small : r ≤ 2000000
   pub weight : (t : Minute) → r ≡ sheetBytes (sheetIn cells w t n)
-
--- the table is filled, and the answer given
-pub record Serves (N : Network) (q : Query) (cells cells′ out out′ : List ℕ) (answer : PlanAnswer) : Type 0 where
-  pub long : length cells′ ≡ length cells
-  pub table : MinuteTable N q (cellAt q cells′)
-  pub answered : Answered N q out out′ answer

@@ -12,8 +12,8 @@ use Rattle.network.specs.Network.{ofFile}
 use Rattle.plan.specs.Network.{Network, Query}
 use Rattle.plan.specs.Plan.{Ride, Feasible}
 use Rattle.plan.specs.Sheet.{Step, OurSheet}
-use Rattle.plan_call.specs.Judge.{Judged, refuse, serve, judged}
-use Rattle.plan_call.specs.Call.{Filled, Untouched}
+use Rattle.tabled.specs.Judge.{judged}
+use Rattle.tabled.specs.Comes.{Comes}
 use Rattle.sheet_file.specs.Fields.{sheetBytes, FileOf}
 
 -- the answer that goes with the sheet, if there is room: 0 exactly when a plan is feasible, 10 exactly when none is
@@ -35,15 +35,6 @@ pub record Answered (N : Network) (q : Query) (out after : List ℕ) (answer : P
   pub answer-is : answer ≡ pick (leb (sheetBytes sheet) (length out)) (given (sheetBytes sheet)) (PlanAnswer.Refused Room)
   pub output-is : Output (leb (sheetBytes sheet) (length out)) sheet out after
 
-pub record Served (N : Network) (q : Query) (table table′ out out′ : List ℕ) (answer : PlanAnswer) : Type 0 where
-  pub answered : Answered N q out out′ answer
-  pub filled : Filled N q table table′
-
--- a refusal that touches nothing, or a sheet and a filled table
-abbrev pub Comes : Judged → Query → List ℕ → List ℕ → List ℕ → List ℕ → PlanAnswer → Type 0
-Comes (refuse why) q table table′ out out′ answer = Untouched (PlanAnswer.Refused why) table table′ out out′ answer
-Comes (serve N) q table table′ out out′ answer = Served N q table table′ out out′ answer
-
 -- the sheet call's promise, for every file, query, table and output
 pub record Sheets (net : List ℕ) (q : Query) (table table′ out out′ : List ℕ) (answer : PlanAnswer) : Type 0 where
-  pub comes : Comes (judged (ofFile net) q (length table)) q table table′ out out′ answer
+  pub comes : Comes Answered (judged (ofFile net) q (length table)) q table table′ out out′ answer

@@ -1,27 +1,25 @@
-// The sheet call: the plan call's tests and table, and then the least costs themselves as a sheet file.
+// The sheet call: the table filled as for the plan call, and then the least costs themselves as a sheet file.
 ghost use mathlib.Core.Path.{_≡_};
-ghost use Prim.Native.Nat.{_+_, _*_, _≤_, _<_};
+ghost use mathlib.Core.List.{List};
+ghost use Prim.Native.Nat.{ℕ, _+_, _*_, _≤_, _<_};
 ghost use lib.ListN.{length};
 ghost use Rattle.bits.specs.Packed.{bitsOf};
-ghost use Rattle.plan.specs.Table.{width};
 ghost use Rattle.plan_file.specs.PlanFile.{queryOf};
 ghost use Rattle.plan_file.specs.Puts.{Puts};
-ghost use Rattle.plan_call.specs.Call.{asking};
-ghost use Rattle.plan_call.specs.Tabled.{Servable};
 ghost use Rattle.walk.specs.Walk.{netOf};
+ghost use Rattle.tabled.specs.Comes.{asking};
+ghost use Rattle.tabled.specs.Tabled.{Tabled};
 ghost use Rattle.sheet_call.specs.Rows.{stepAt, stepsOf, sheetIn};
 ghost use Rattle.sheet_file.specs.Fields.{stepFields, stepsFields, placeFields, placesFields, sheetBytes, FileOf};
-ghost use Rattle.sheet_call.specs.Parts.{Counted, RoomAt, Table, Weighed, Serves};
-ghost use Rattle.sheet_call.specs.Sheet.{Sheets};
+ghost use Rattle.sheet_call.specs.Parts.{Counted, RoomAt, Table, Weighed};
+ghost use Rattle.sheet_call.specs.Sheet.{Answered, Sheets};
 use answer::PlanAnswer;
 use answer::Refusal;
 use leg::Cents;
 use leg::Minute;
-use network::NetworkFound;
 use network::Size;
-use plan_call::Judgement;
 use plan_file::Query;
-use source::Origin;
+use tabled::Tabling;
 
 // What a cell holds where there is no plan.
 const NO_PLAN: u32 = 4294967295;
@@ -80,20 +78,20 @@ fn put_steps(row: &[u32], earliest: Minute, out: &mut [u8], at: usize) -> u32
 {
     let mut was = NO_COST;
     let mut count = 0;
-    let mut k = 0;
-    while k < row.len() {
-        let cost = row[k] / 64;
+    let mut column = 0;
+    while column < row.len() {
+        let cost = row[column] / 64;
         if cost < was {
             put_step(
                 out,
                 at + 44 * count as usize,
-                Minute(earliest.0 + k as u32),
+                Minute(earliest.0 + column as u32),
                 Cents(cost),
             );
             was = cost;
             count += 1;
         }
-        k += 1;
+        column += 1;
     }
     count
 }
@@ -135,16 +133,15 @@ fn write_sheet(cells: &[u32], w: usize, places: u32, earliest: Minute, file: &mu
     put_places(cells, w, places, earliest, file);
 }
 
-// The table filled; then 9, or the file and 10 or 0.
-fn serve(net: &[u8], size: Size, query: Query, cells: &mut [u32], out: &mut [u8]) -> PlanAnswer
-    requires { ⌜ Servable (now net) size query × (length (now cells) ≡ size .places * width (queryOf query)) ⌝ }
-    ensures { λ r. ⌜ Serves (netOf (now (net .entry))) (queryOf query) (now (cells .entry)) (now (cells .exit))
-        (now (out .entry)) (now (out .exit)) r ⌝ }
+// From the filled table of some network: 9, or the file and 10 or 0.
+fn answer(size: Size, query: Query, cells: &[u32], out: &mut [u8]) -> PlanAnswer
+    requires { ⌜ ((net : List ℕ) × Tabled net size query (now cells)) ⌝ }
+    ensures { λ r. ⌜ ((net : List ℕ) → Tabled net size query (now (cells .entry))
+        → Answered (netOf net) (queryOf query) (now (out .entry)) (now (out .exit)) r) ⌝ }
 {
     let earliest = query.earliest;
     let latest = query.latest;
     let w = (latest.0 - earliest.0 + 1) as usize;
-    table::fill(net, size, query.start, earliest.0, latest.0, cells);
     let bytes = weigh(cells, w, size.places);
     if out.len() < bytes as usize {
         return PlanAnswer::Refused(Refusal::Room);
@@ -169,25 +166,15 @@ pub fn sheet(
     ensures { λ r. ⌜ Sheets (now (net .entry)) (asking start end earliest latest) (now (table .entry)) (now (table .exit))
         (now (out .entry)) (now (out .exit)) r ⌝ }
 {
-    let no_list = [0u32; 1];
-    let found = network::network_from(Origin::File, net, &no_list);
-    match found {
-        NetworkFound::Refused(why) => PlanAnswer::Refused(why),
-        NetworkFound::Sound(size) => {
-            let query = Query {
-                start,
-                end,
-                earliest: Minute(earliest),
-                latest: Minute(latest),
-            };
-            let judgement = plan_call::judge(size, query, table.len());
-            match judgement {
-                Judgement::Refuse(why) => PlanAnswer::Refused(why),
-                Judgement::Serve => {
-                    let cells = plan_call::area(size.places, latest - earliest + 1);
-                    serve(net, size, query, &mut table[..cells], out)
-                }
-            }
-        }
+    let query = Query {
+        start,
+        end,
+        earliest: Minute(earliest),
+        latest: Minute(latest),
+    };
+    let tabling = tabled::fill_for(net, query, table);
+    match tabling {
+        Tabling::Refused(why) => PlanAnswer::Refused(why),
+        Tabling::Filled(size) => answer(size, query, table, out),
     }
 }

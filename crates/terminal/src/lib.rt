@@ -2,7 +2,8 @@
 ghost use mathlib.Core.Path.{_≡_};
 ghost use Rattle.read_call.specs.Read.{Reads};
 ghost use Rattle.write_call.specs.Write.{Writes};
-ghost use Rattle.plan_call.specs.Call.{asking, Plans};
+ghost use Rattle.tabled.specs.Comes.{asking};
+ghost use Rattle.plan_call.specs.Call.{Plans};
 ghost use Rattle.sheet_call.specs.Sheet.{Sheets};
 ghost use Rattle.gate.specs.Gate.{GateSays};
 ghost use Rattle.terminal.specs.Reply.{Replies, PlanReplies, Says};

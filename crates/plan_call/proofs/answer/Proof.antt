@@ -4,10 +4,9 @@ use mathlib.Core.Path.{sym, ap, _∙_}
 use Rattle.answer.specs.declared.PlanAnswer.{PlanAnswer}
 use Rattle.plan_file.specs.PlanFile.{queryOf, noneFile}
 use Rattle.walk.specs.Walk.{netOf}
-use Rattle.plan_call.proofs.Answers.{no-room, room, end-in, none-right, arrival-in, ending, too-long, written}
-use Prim.Native.Nat.{ℕ, _+_, _*_}
+use Rattle.tabled.proofs.Serving.{end-in}
+use Rattle.plan_call.proofs.Answers.{no-room, room, none-right, arrival-in, ending, too-long, written}
 use native.Mathlib.Omega.{arith}
-use mathlib.Core.Path.{sym, ap, _∙_}
 use borrow.Author.Needs.{needs}
 use Rattle.plan_call.proofs.answer.Statement.{statement}
 use Rattle.plan_call.proofs.answer.Tie as tie

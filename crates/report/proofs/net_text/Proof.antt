@@ -1,7 +1,7 @@
 use mathlib.Core.Path.{sym, _∙_}
 use lib.ListN.{length}
 use Rattle.network.specs.Network.{ofFile}
-use Rattle.plan_call.specs.Judge.{judged}
+use Rattle.tabled.specs.Judge.{judged}
 use Rattle.plan_file.specs.PlanFile.{queryOf}
 use Rattle.report.proofs.Telling.{plan-done, plan-none, plan-refused, net-refused, told-ridden, told-text, printed}
 use mathlib.Core.Path.{sym, _∙_}

@@ -14,7 +14,7 @@ abbrev μ-loop : tie.MeasureT-loop
 μ-loop row was₀ count₀ k₀ was count k = length row - k
 
 loop-holds : tie.Need-loop-holds Inv-loop μ-loop
-loop-holds c = counting-none (c .args .row .now)
+loop-holds c = counting-none (c .args .row .now) _ (omega arith)
 
 mul-cost : tie.Need-mul-cost Inv-loop μ-loop
 mul-cost c = search needs
@@ -36,8 +36,8 @@ loop-again c =
     let l = c .before .before .before .loop in
     let row = c .before .before .before .before .args .row .now in
     ⊎-elim
-    (λ w. rw (w .1, w .2) (counting-lower row (l .was) (l .count) (l .k) (l .inv) (c .before .before .loop-test .taken) (w .0 .taken)))
-    (λ w. rw (w .1, w .2) (counting-same row (l .was) (l .count) (l .k) (l .inv) (c .before .before .loop-test .taken) (w .0 .left)))
+    (λ w. rw (w .1, w .2) (counting-lower row (l .was) (l .count) (l .k) (l .inv) (c .before .before .loop-test .taken) _ (omega arith) (w .0 .taken)))
+    (λ w. rw (w .1, w .2) (counting-same row (l .was) (l .count) (l .k) (l .inv) (c .before .before .loop-test .taken) _ (omega arith) (w .0 .left)))
     (c .if1 .came)
 
 returns : tie.Need-returns Inv-loop μ-loop

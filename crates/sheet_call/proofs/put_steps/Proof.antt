@@ -8,13 +8,13 @@ use Rattle.sheet_call.proofs.put_steps.Statement.{statement}
 use Rattle.sheet_call.proofs.put_steps.Tie as tie
 
 abbrev Inv-loop : tie.InvT-loop
-Inv-loop row earliest out₀ at was₀ count₀ k₀ out was count k = Putting row (earliest .0) out₀ at out was count k
+Inv-loop row earliest out₀ at was₀ count₀ column₀ out was count column = Putting row (earliest .0) out₀ at out was count column
 
 abbrev μ-loop : tie.MeasureT-loop
-μ-loop row earliest out₀ at was₀ count₀ k₀ out was count k = length row - k
+μ-loop row earliest out₀ at was₀ count₀ column₀ out was count column = length row - column
 
 loop-holds : tie.Need-loop-holds Inv-loop μ-loop
-loop-holds c = let a = c .before .before .args in putting-none (a .row .now) (a .earliest .0) (a .out .now) (a .at) (c .before .before .pre .1 .byte)
+loop-holds c = let a = c .before .before .args in putting-none (a .row .now) (a .earliest .0) (a .out .now) (a .at) (c .before .before .pre .1 .byte) _ (omega arith)
 
 mul-cost : tie.Need-mul-cost Inv-loop μ-loop
 mul-cost c = search needs
@@ -42,7 +42,7 @@ put-step-requires c κs =
     let l = c .before .before .before .before .before .loop in
     let a = c .before .before .before .before .before .before .before .before .args in (
       omega arith,
-      putting-room (a .row .now) (a .earliest .0) (a .out .now) (a .at) (l .out) (l .was) (l .count) (l .k) (l .inv)
+      putting-room (a .row .now) (a .earliest .0) (a .out .now) (a .at) (l .out) (l .was) (l .count) (l .column) (l .inv)
           (c .before .before .before .before .loop-test .taken) (c .before .before .before .before .before .before .before .before .pre .1) (c .before .before .if1 .taken),
       omega arith,
     )
@@ -50,8 +50,8 @@ put-step-requires c κs =
 add-count : tie.Need-add-count Inv-loop μ-loop
 add-count c = search needs
 
-add-k : tie.Need-add-k Inv-loop μ-loop
-add-k c = search needs
+add-column : tie.Need-add-column Inv-loop μ-loop
+add-column c = search needs
 
 loop-less : tie.Need-loop-less Inv-loop μ-loop
 loop-less c = omega arith
@@ -61,9 +61,9 @@ loop-again c =
     let l = c .before .before .before .loop in
     let a = c .before .before .before .before .before .before .args in
     ⊎-elim
-    (λ w. rw (w .6, w .7, w .8) (putting-lower (a .row .now) (a .earliest .0) (a .out .now) (a .at) (l .out) (l .was) (l .count) (l .k) (l .inv)
+    (λ w. rw (w .6, w .7, w .8) (putting-lower (a .row .now) (a .earliest .0) (a .out .now) (a .at) (l .out) (l .was) (l .count) (l .column) (l .inv)
     (c .before .before .loop-test .taken) (w .0 .taken) _ (w .3 .ensures)))
-    (λ w. rw (w .1, w .2, w .3) (putting-same (a .row .now) (a .earliest .0) (a .out .now) (a .at) (l .out) (l .was) (l .count) (l .k) (l .inv)
+    (λ w. rw (w .1, w .2, w .3) (putting-same (a .row .now) (a .earliest .0) (a .out .now) (a .at) (l .out) (l .was) (l .count) (l .column) (l .inv)
     (c .before .before .loop-test .taken) (w .0 .left)))
     (c .if1 .came)
 
@@ -74,8 +74,8 @@ returns : tie.Need-returns Inv-loop μ-loop
 returns c =
     let l = c .before .loop in
     let a = c .before .before .before .before .args in (
-      counting-done (a .row .now) (l .was) (l .count) (l .k) (l .inv .counting) (c .loop-test .left),
-      putting-done (a .row .now) (a .earliest .0) (a .out .now) (a .at) (l .out) (l .was) (l .count) (l .k) (l .inv) (c .loop-test .left),
+      counting-done (a .row .now) (l .was) (l .count) (l .column) (l .inv .counting) (c .loop-test .left),
+      putting-done (a .row .now) (a .earliest .0) (a .out .now) (a .at) (l .out) (l .was) (l .count) (l .column) (l .inv) (c .loop-test .left),
     )
 
 pub put-steps-spec : {M : Type 1} → statement M
@@ -94,7 +94,7 @@ put-steps-spec =
     add-t20
     put-step-requires
     add-count
-    add-k
+    add-column
     loop-less
     loop-again
     same-length

@@ -18,9 +18,9 @@ use Rattle.plan.specs.Network.{Query, Askable}
 use Rattle.plan.specs.Table.{width}
 use Rattle.walk.specs.Walk.{theNet, netOf}
 use Rattle.walk.proofs.Nets.{places-are, ranges}
-use Rattle.plan_call.specs.declared.Judgement.{Judgement}
-use Rattle.plan_call.specs.declared.Judgement.the-variants.{Serve, Refuse}
-use Rattle.plan_call.specs.Judge.{judgement, refuse, serve, with-network, judged}
+use Rattle.tabled.specs.declared.Judgement.{Judgement}
+use Rattle.tabled.specs.declared.Judgement.the-variants.{Serve, Refuse}
+use Rattle.tabled.specs.Judge.{judgement, refuse, serve, with-network, judged}
 
 -- all tests were passed
 pub record Passed (places : ℕ) (q : Query) (cells : ℕ) : Type 0 where

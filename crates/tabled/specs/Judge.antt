@@ -9,8 +9,8 @@ use Rattle.network.specs.Network.{Network as FileNetwork}
 use Rattle.plan.specs.Network.{Network, Query}
 use Rattle.plan.specs.Table.{width}
 use Rattle.plan.specs.Legs.{networkOf}
-use Rattle.plan_call.specs.declared.Judgement.{Judgement}
-use Rattle.plan_call.specs.declared.Judgement.the-variants.{Serve, Refuse}
+use Rattle.tabled.specs.declared.Judgement.{Judgement}
+use Rattle.tabled.specs.declared.Judgement.the-variants.{Serve, Refuse}
 
 -- 6: start or end not below places, or a query time over 2,879; 7: earliest after latest; 8: fewer than places × W cells
 abbrev pub judgement : ℕ → Query → ℕ → Judgement

@@ -1,7 +1,7 @@
 use native.Mathlib.Nat.{mul-le-mul}
 use native.Mathlib.Omega.{arith}
-use Rattle.plan_call.proofs.area.Statement.{statement}
-use Rattle.plan_call.proofs.area.Tie as tie
+use Rattle.tabled.proofs.area.Statement.{statement}
+use Rattle.tabled.proofs.area.Tie as tie
 
 returns : tie.Need-returns
 returns c = omega (arith, mul-le-mul (c .pre .0) (c .pre .1))

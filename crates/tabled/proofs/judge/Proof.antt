@@ -1,7 +1,7 @@
 use borrow.Author.Tests.{le-ltb, lt-ltb, le-leb, lt-leb}
 use borrow.Author.Needs.{needs}
-use Rattle.plan_call.proofs.judge.Statement.{statement}
-use Rattle.plan_call.proofs.judge.Tie as tie
+use Rattle.tabled.proofs.judge.Statement.{statement}
+use Rattle.tabled.proofs.judge.Tie as tie
 
 returns : tie.Need-returns
 returns c = simp (le-ltb _ _ (c .if1 .taken))

@@ -8,7 +8,7 @@ use lib.Seq.{getD-append-add, getD-drop, length-front, length-take-le}
 use Rattle.plan.specs.Network.{Minute, Network, Query, Within}
 use Rattle.plan.specs.Table.{width, Cell, cellAt, MinuteTable}
 use Rattle.walk.proofs.Nets.{row-room}
-use Rattle.plan_call.specs.Call.{Filled}
+use Rattle.tabled.specs.Comes.{Filled}
 
 -- the cell of a place and minute stands before the end of the table
 pub cell-below : (N : Network) (q : Query) (p : ℕ) (t : Minute) → Within N q p t → p * width q + (t - q .earliest) < N .places * width q

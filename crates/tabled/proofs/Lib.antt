@@ -1,0 +1,5 @@
+pub mod Judging
+pub mod Filling
+pub mod Tables
+pub mod Serving
+pub mod Once

@@ -1,0 +1,3 @@
+pub mod Judge
+pub mod Comes
+pub mod Tabled
