@@ -1,4 +1,5 @@
 pub mod Walks
 pub mod Bands
+pub mod InFile
 pub mod Enough
 pub mod Turn

@@ -1,4 +1,4 @@
-// Rule (b) for one leg: its steps and its bands are walked once, forward in time.
+// Rule (b) for one leg: its steps and its bands are walked once, forward in time, where they stand in the two files.
 ghost use mathlib.Core.Path.{_≡_};
 ghost use Prim.Native.Nat.{_+_, _*_, _≤_, _<_};
 ghost use lib.ListN.{length};
@@ -6,8 +6,8 @@ ghost use Rattle.plan.specs.Sheet.{Steps, value};
 ghost use Rattle.sheet_file.specs.Window.{window};
 ghost use Rattle.sheet_file.specs.InPlace.{stepsAt, placeAt, countAt};
 ghost use Rattle.rule_b.specs.Rule.{Is, RuleB, InOrder};
+ghost use Rattle.rule_b.specs.InFile.{legAt, LegThere};
 ghost use Rattle.rule_b.specs.Cursor.{firstOf, shown, startOr, Held, Begun, Moved, Banded, Covers, Or, PlaceAsked, LegAsked};
-use leg::Leg;
 
 // A place in a list of steps: the bit of the next step, how many are left, its minute; and the cost of the last step passed, if there is one.
 pub struct Cursor {
@@ -97,33 +97,29 @@ pub fn value_at(sheet: &[u8], place: u32, minute: u32, earliest: u32, latest: u3
     }
 }
 
-// Where band k starts.
-fn start_of(leg: Leg, k: usize) -> u32
-    requires { ⌜ leg .count ≤ 8 ⌝ }
-    ensures { λ r. ⌜ r ≡ startOr leg k ⌝ }
+// Where band k of the leg at a bit starts.
+fn start_of(net: &[u8], leg: usize, count: usize, k: usize) -> u32
+    requires { ⌜ LegThere (now net) leg count ⌝ }
+    ensures { λ r. ⌜ r ≡ startOr (legAt (now (net .entry)) leg) k ⌝ }
 {
-    if leg.count <= k {
+    if count <= k {
         return 4096;
     }
-    let bands = leg.bands;
-    let band = bands[k];
-    band.start.0
+    reader::field(net, leg + 28 + 28 * k, 12)
 }
 
 // Past every band that has begun at a minute.
-fn begun(leg: Leg, tolls: Tolls, minute: u32) -> Tolls
-    requires { ⌜ InOrder leg × Banded leg minute tolls × (minute < 4096) ⌝ }
-    ensures { λ r. ⌜ Banded leg minute r × (minute < r .next) ⌝ }
+fn begun(net: &[u8], leg: usize, count: usize, tolls: Tolls, minute: u32) -> Tolls
+    requires { ⌜ LegThere (now net) leg count × InOrder (legAt (now net) leg) × Banded (legAt (now net) leg) minute tolls × (minute < 4096) ⌝ }
+    ensures { λ r. ⌜ Banded (legAt (now (net .entry)) leg) minute r × (minute < r .next) ⌝ }
 {
-    let bands = leg.bands;
     let mut passed = tolls.passed;
     let mut next = tolls.next;
     let mut toll = tolls.toll;
     while next <= minute {
-        let band = bands[passed];
-        toll = band.toll.0;
+        toll = reader::field(net, leg + 28 + 28 * passed + 12, 16);
         passed += 1;
-        next = start_of(leg, passed);
+        next = start_of(net, leg, count, passed);
     }
     Tolls { passed, next, toll }
 }
@@ -151,16 +147,25 @@ fn sooner(a: u32, b: u32) -> u32
     b
 }
 
-// Does the sheet obey rule (b) for this leg? Nothing but the value at the arrival changes between two steps and two band starts,
+// Does the sheet obey rule (b) for the leg at a bit of the network? Nothing but the value at the arrival changes between two steps and two band starts,
 // and that only falls: so the rule is tested at the steps of the place that the leg leaves, and where a band starts.
-pub fn leg_obeys(sheet: &[u8], leg: Leg, from: u32, to: u32, earliest: u32, latest: u32) -> bool
-    requires { ⌜ LegAsked (now sheet) leg from to (window earliest latest) ⌝ }
-    ensures { λ r. ⌜ Is r (RuleB latest leg (placeAt (now (sheet .entry)) from) (placeAt (now (sheet .entry)) to)) ⌝ }
+pub fn leg_obeys(
+    net: &[u8],
+    leg: usize,
+    sheet: &[u8],
+    from: u32,
+    to: u32,
+    earliest: u32,
+    latest: u32,
+) -> bool
+    requires { ⌜ LegThere (now net) leg (legAt (now net) leg .count) × LegAsked (now sheet) (legAt (now net) leg) from to (window earliest latest) ⌝ }
+    ensures { λ r. ⌜ Is r (RuleB latest (legAt (now (net .entry)) leg) (placeAt (now (sheet .entry)) from) (placeAt (now (sheet .entry)) to)) ⌝ }
 {
-    let time = leg.time.0;
+    let time = reader::field(net, leg + 12, 12);
+    let count = reader::field(net, leg + 24, 4) as usize;
     let mut i = begin(sheet, from);
     let mut j = begin(sheet, to);
-    let next = start_of(leg, 0);
+    let next = start_of(net, leg, count, 0);
     let mut tolls = Tolls {
         passed: 0,
         next,
@@ -169,7 +174,7 @@ pub fn leg_obeys(sheet: &[u8], leg: Leg, from: u32, to: u32, earliest: u32, late
     let mut departure = i.next;
     while departure + time <= latest {
         i = forward(sheet, i, departure);
-        tolls = begun(leg, tolls, departure);
+        tolls = begun(net, leg, count, tolls, departure);
         j = forward(sheet, j, departure + time);
         if !covered(i, tolls, j) {
             return false;

@@ -1,63 +1,76 @@
 use Rattle.rule_b.specs.Rule.{InOrder}
 use Rattle.rule_b.specs.Cursor.{Banded}
+use Rattle.rule_b.specs.InFile.{legAt, LegThere}
 use Rattle.rule_b.proofs.Bands.{some-band, banded-more}
+use Rattle.rule_b.proofs.InFile.{band-there}
 use borrow.Author.Needs.{needs}
-use Prim.Native.Nat.{_-_, _<_}
+use Prim.Native.Nat.{_+_, _-_, _<_}
 use native.Mathlib.Omega.{arith}
-use mathlib.Core.Path.{refl}
+use mathlib.Core.Path.{sym, _∙_, ap}
+use Rattle.leg.specs.declared.Band.{Band}
 use Rattle.rule_b.proofs.begun.Statement.{statement}
 use Rattle.rule_b.proofs.begun.Tie as tie
 
 abbrev Inv-loop : tie.InvT-loop
-Inv-loop leg minute bands passed₀ next₀ toll₀ passed next toll =
-    InOrder leg × Banded leg minute (record { passed = passed; next = next; toll = toll }) × (minute < 4096)
+Inv-loop net leg count minute passed₀ next₀ toll₀ passed next toll =
+    LegThere net leg count × InOrder (legAt net leg) × Banded (legAt net leg) minute (record { passed = passed; next = next; toll = toll }) × (minute < 4096)
 
 abbrev μ-loop : tie.MeasureT-loop
-μ-loop leg minute bands passed₀ next₀ toll₀ passed next toll =
-    leg .count - passed
+μ-loop net leg count minute passed₀ next₀ toll₀ passed next toll =
+    count - passed
 
 loop-holds : tie.Need-loop-holds Inv-loop μ-loop
-loop-holds c =
-    (c .before .pre .0, c .before .pre .1, c .before .pre .2)
+loop-holds c = c .before .pre
 
-mul-band : tie.Need-mul-band Inv-loop μ-loop
-mul-band c =
+-- the next band is one of the leg's
+low : (c : tie.In-loop Inv-loop μ-loop) → c .before .loop .passed < c .before .before .before .args .count
+low c =
     let a = c .before .before .before .args in
     let l = c .before .loop in
-    omega (arith, some-band (a .leg) (l .passed) (l .next) (l .inv .1 .next-is) (omega (arith, c .loop-test .taken, l .inv .2)), l .inv .0 .few-bands)
+    omega (arith, l .inv .0 .count-is, some-band (legAt (a .net .now) (a .leg)) (l .passed) (l .next) (l .inv .2 .next-is) (omega (arith, c .loop-test .taken, l .inv .3)))
 
-array-copy-out-band : tie.Need-array-copy-out-band Inv-loop μ-loop
-array-copy-out-band c =
-    let a = c .before .before .before .args in
-    let l = c .before .loop in
-    omega (arith, some-band (a .leg) (l .passed) (l .next) (l .inv .1 .next-is) (omega (arith, c .loop-test .taken, l .inv .2)), l .inv .0 .few-bands)
+add-field : tie.Need-add-field Inv-loop μ-loop
+add-field c = omega (arith, c .before .loop .inv .0 .near)
+
+mul-field : tie.Need-mul-field Inv-loop μ-loop
+mul-field c = omega (arith, low c, c .before .loop .inv .0 .near, c .before .loop .inv .0 .few)
+
+add-field-2 : tie.Need-add-field-2 Inv-loop μ-loop
+add-field-2 c = omega (arith, low c, c .before .loop .inv .0 .near, c .before .loop .inv .0 .few)
+
+add-field-3 : tie.Need-add-field-3 Inv-loop μ-loop
+add-field-3 c = omega (arith, low c, c .before .loop .inv .0 .near, c .before .loop .inv .0 .few)
+
+field-requires : tie.Need-field-requires Inv-loop μ-loop
+field-requires c κs = (omega arith, omega arith, omega (arith, low c, c .before .loop .inv .0 .inside))
 
 add-passed : tie.Need-add-passed Inv-loop μ-loop
 add-passed c = search needs
 
 start-of-requires : tie.Need-start-of-requires Inv-loop μ-loop
-start-of-requires c κs = search needs
+start-of-requires c κs = c .before .before .loop .inv .0
 
 loop-less : tie.Need-loop-less Inv-loop μ-loop
-loop-less c =
-    let a = c .before .before .before .before .before .args in
-    let l = c .before .before .before .loop in
-    omega (arith, some-band (a .leg) (l .passed) (l .next) (l .inv .1 .next-is) (omega (arith, c .before .before .loop-test .taken, l .inv .2)))
+loop-less c = omega (arith, low (c .before .before))
 
 loop-again : tie.Need-loop-again Inv-loop μ-loop
 loop-again c =
     let a = c .before .before .before .before .before .args in
     let l = c .before .before .before .loop in
-    let t = c .before .before .loop-test .taken in (
+    let t = c .before .before .loop-test .taken in
+    let leg = legAt (a .net .now) (a .leg) in
+    let here = low (c .before .before) in
+    let toll = c .before .field .ensures ∙ sym (ap (λ (b : Band). b .toll .0) (band-there (a .net .now) (a .leg + 28) (leg .count) (l .passed) (omega (arith, here, l .inv .0 .count-is)))) in (
       l .inv .0,
-      banded-more (a .leg) (a .minute) (record { passed = l .passed; next = l .next; toll = l .toll }) (c .start-of .result) _ (l .inv .0) (l .inv .1) t (l .inv .2) refl
+      l .inv .1,
+      banded-more leg (a .minute) (record { passed = l .passed; next = l .next; toll = l .toll }) (c .start-of .result) _ (l .inv .1) (l .inv .2) t (l .inv .3) toll
           (c .start-of .ensures),
-      l .inv .2,
+      l .inv .3,
     )
 
 returns : tie.Need-returns Inv-loop μ-loop
 returns c =
-    (c .before .loop .inv .1, c .loop-test .left)
+    (c .before .loop .inv .2, c .loop-test .left)
 
 pub begun-spec : {M : Type 1} → statement M
 begun-spec =
@@ -66,8 +79,11 @@ begun-spec =
     Inv-loop
     μ-loop
     loop-holds
-    mul-band
-    array-copy-out-band
+    add-field
+    mul-field
+    add-field-2
+    add-field-3
+    field-requires
     add-passed
     start-of-requires
     loop-less
