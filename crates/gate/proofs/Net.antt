@@ -17,6 +17,7 @@ use Rattle.plan.specs.Legs.{noLeg}
 use Rattle.chart.specs.Chart.{Charted}
 use Rattle.chart.proofs.Charting.{charted-leg}
 use Rattle.rule_b.specs.Rule.{InOrder}
+use Rattle.rule_b.proofs.InFile.{Same, leg-there}
 use Rattle.gate.specs.Parts.{netOf, netAt, legOf, Known-file}
 
 pub record NetRead (s : List ℕ) (size : Size) : Type 0 where
@@ -51,6 +52,12 @@ module _ (s : List ℕ) (size : Size) (chart : List ℕ) (h : Known-file s size 
   leg-is k low =
       ap (λ (p : ℕ). legFound (leg edition1 p (fileOf s) (getD chart k 0)) .leg) (read .places)
       ∙ charted-leg s (netAt s) chart charted k (omega (arith, read .legs))
+
+  -- leg k where it stands in the file
+  pub leg-stands : (k : ℕ) → k < size .legs → Same s (getD chart k 0) (legOf s k)
+  leg-stands k low =
+      let t = charted .stands k (omega (arith, read .legs)) in
+      leg-there s (netAt s .places) (getD chart k 0) (legOf s k) (t .0) (t .1)
 
   pub leg-sound : (k : ℕ) → k < size .legs → SoundLeg (netAt s .places) (legOf s k)
   leg-sound k low = read .sound .each-leg k noLeg (omega (arith, read .legs))

@@ -148,10 +148,10 @@ fn leg_rules(
     requires { ⌜ Known-file (now net) size (now chart) × Placed (now sheet) (size .places) (window earliest latest) (now index) × (k < size .legs) ⌝ }
     ensures { λ r. ⌜ Is r (RuleOf (now (net .entry)) (now (sheet .entry)) (now (index .entry)) latest k) ⌝ }
 {
-    let leg = chart::leg_at(net, size.places, chart[k]);
-    let from = leg.from as usize;
-    let to = leg.to as usize;
-    rule_b::leg_obeys(sheet, leg, index[from], index[to], earliest, latest)
+    let leg = chart[k] as usize;
+    let from = reader::field(net, leg, 6) as usize;
+    let to = reader::field(net, leg + 6, 6) as usize;
+    rule_b::leg_obeys(net, leg, sheet, index[from], index[to], earliest, latest)
 }
 
 // Both rules.

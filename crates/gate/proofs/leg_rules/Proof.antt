@@ -1,30 +1,17 @@
-use mathlib.Core.Path.{subst}
-use Rattle.leg.specs.declared.Leg.{Leg}
+-- `gate::leg_rules`: leg k is read where it stands, and is the network's.
+use Prim.Native.Nat.{_≤_, _<_}
+use native.Mathlib.Omega.{arith}
+use mathlib.Core.Path.{refl, _∙_, subst}
+use lib.ListN.{getD}
+use borrow.Author.Needs.{needs}
 use Rattle.network.proofs.Sound.{SoundLeg}
 use Rattle.sheet_file.specs.InPlace.{placeAt}
 use Rattle.rule_b.specs.Rule.{Is, RuleB}
+use Rattle.rule_b.proofs.InFile.{Same, order-there, rule-there}
 use Rattle.gate.specs.Parts.{netAt, legOf}
-use Rattle.gate.proofs.Net.{read, charted, leg-is, leg-sound, in-order}
-use Prim.Native.Nat.{_<_}
-use native.Mathlib.Omega.{arith}
-use mathlib.Core.Path.{_≡_, _∙_}
-use lib.ListN.{getD}
-use borrow.Author.Needs.{needs}
+use Rattle.gate.proofs.Net.{read, charted, leg-stands, leg-sound, in-order}
 use Rattle.gate.proofs.leg_rules.Statement.{statement}
 use Rattle.gate.proofs.leg_rules.Tie as tie
-
--- the leg that was decoded is the network's
-this-leg : (c : tie.After-leg-at) → c .leg-at .result ≡ legOf (c .before .before .before .before .args .net .now) (c .before .before .before .before .args .k)
-this-leg c =
-    let a = c .before .before .before .before .args in
-    let p = c .before .before .before .before .pre in
-    c .leg-at .ensures ∙ leg-is (a .net .now) (a .size) (a .chart .now) (p .0) (a .k) (p .2)
-
-its-sound : (c : tie.After-leg-at) → SoundLeg (netAt (c .before .before .before .before .args .net .now) .places) (c .leg-at .result)
-its-sound c =
-    let a = c .before .before .before .before .args in
-    let p = c .before .before .before .before .pre in
-    rw (this-leg c) (leg-sound (a .net .now) (a .size) (a .chart .now) (p .0) (a .k) (p .2))
 
 few-legs : (c : tie.Start) → c .args .k < 512
 few-legs c =
@@ -32,68 +19,104 @@ few-legs c =
     let r = read (a .net .now) (a .size) (a .chart .now) (c .pre .0) in
     omega (arith, r .legs, r .sound .few-legs, c .pre .2)
 
-mul-leg-at : tie.Need-mul-leg-at
-mul-leg-at c =
-    omega (arith, few-legs (c .before .before))
+stands : (c : tie.Start) → Same (c .args .net .now) (getD (c .args .chart .now) (c .args .k) 0) (legOf (c .args .net .now) (c .args .k))
+stands c = let a = c .args in leg-stands (a .net .now) (a .size) (a .chart .now) (c .pre .0) (a .k) (c .pre .2)
 
-element-copy-out-leg-at : tie.Need-element-copy-out-leg-at
-element-copy-out-leg-at c =
-    omega (arith, few-legs (c .before .before))
+sound : (c : tie.Start) → SoundLeg (netAt (c .args .net .now) .places) (legOf (c .args .net .now) (c .args .k))
+sound c = let a = c .args in leg-sound (a .net .now) (a .size) (a .chart .now) (c .pre .0) (a .k) (c .pre .2)
 
-leg-at-requires : tie.Need-leg-at-requires
-leg-at-requires c κs =
-    let a = c .before .before .before .args in charted (a .net .now) (a .size) (a .chart .now) (c .before .before .before .pre .0) .near (a .k)
+near : (c : tie.Start) → getD (c .args .chart .now) (c .args .k) 0 ≤ 200000
+near c = let a = c .args in charted (a .net .now) (a .size) (a .chart .now) (c .pre .0) .near (a .k)
+
+-- the places that it joins have a bit in the index
+from-below : (c : tie.Start) → legOf (c .args .net .now) (c .args .k) .from < c .args .size .places
+from-below c =
+    let a = c .args in omega (arith, sound c .from-below, read (a .net .now) (a .size) (a .chart .now) (c .pre .0) .places)
+
+to-below : (c : tie.Start) → legOf (c .args .net .now) (c .args .k) .to < c .args .size .places
+to-below c =
+    let a = c .args in omega (arith, sound c .to-below, read (a .net .now) (a .size) (a .chart .now) (c .pre .0) .places)
+
+mul-leg : tie.Need-mul-leg
+mul-leg c = omega (arith, few-legs (c .before .before))
+
+element-copy-out-leg : tie.Need-element-copy-out-leg
+element-copy-out-leg c = omega (arith, few-legs (c .before .before))
+
+cast-leg : tie.Need-cast-leg
+cast-leg c = omega (arith, near (c .before .before .before))
+
+field-requires : tie.Need-field-requires
+field-requires c κs = (omega arith, omega arith, omega (arith, stands (c .before .before .before) .inside))
 
 cast-from : tie.Need-cast-from
 cast-from c = search needs
+
+add-field : tie.Need-add-field
+add-field c = omega (arith, near (c .before .before .before .before))
+
+field-requires-2 : tie.Need-field-requires-2
+field-requires-2 c κs = (omega arith, omega arith, omega (arith, stands (c .before .before .before .before) .inside))
 
 cast-to : tie.Need-cast-to
 cast-to c = search needs
 
 mul-leg-obeys : tie.Need-mul-leg-obeys
-mul-leg-obeys c =
-    let a = c .before .before .before .before .before .before .args in omega (arith, its-sound (c .before .before) .from-below, read (a .net .now) (a .size) (a .chart .now) (c .before .before .before .before .before .before .pre .0) .places, c .before .before .before .before .before .before .pre .1 .few)
+mul-leg-obeys c = search needs
 
 element-copy-out-leg-obeys : tie.Need-element-copy-out-leg-obeys
 element-copy-out-leg-obeys c =
-    let a = c .before .before .before .before .before .before .args in omega (arith, its-sound (c .before .before) .from-below, read (a .net .now) (a .size) (a .chart .now) (c .before .before .before .before .before .before .pre .0) .places, c .before .before .before .before .before .before .pre .1 .few)
+    let start = c .before .before .before .before .before in
+    omega (arith, c .before .field .ensures, stands start .from-is, from-below start, start .pre .1 .few)
 
 mul-leg-obeys-2 : tie.Need-mul-leg-obeys-2
-mul-leg-obeys-2 c =
-    let a = c .before .before .before .before .before .before .before .args in omega (arith, its-sound (c .before .before .before) .to-below, read (a .net .now) (a .size) (a .chart .now) (c .before .before .before .before .before .before .before .pre .0) .places, c .before .before .before .before .before .before .before .pre .1 .few)
+mul-leg-obeys-2 c = search needs
 
 element-copy-out-leg-obeys-2 : tie.Need-element-copy-out-leg-obeys-2
 element-copy-out-leg-obeys-2 c =
-    let a = c .before .before .before .before .before .before .before .args in omega (arith, its-sound (c .before .before .before) .to-below, read (a .net .now) (a .size) (a .chart .now) (c .before .before .before .before .before .before .before .pre .0) .places, c .before .before .before .before .before .before .before .pre .1 .few)
+    let start = c .before .before .before .before .before .before in
+    omega (arith, c .before .field2 .ensures, stands start .to-is, to-below start, start .pre .1 .few)
 
 leg-obeys-requires : tie.Need-leg-obeys-requires
 leg-obeys-requires c κs =
-    let a = c .before .before .before .before .before .before .before .before .args in
-    let p = c .before .before .before .before .before .before .before .before .pre in
-    let places = read (a .net .now) (a .size) (a .chart .now) (p .0) .places in
-    let sound = its-sound (c .before .before .before .before) in
-    record {
-      order = in-order _ _ sound;
-      from-place = p .1 .each (c .before .before .before .before .leg-at .result .from) (omega (arith, sound .from-below, places));
-      to-place = p .1 .each (c .before .before .before .before .leg-at .result .to) (omega (arith, sound .to-below, places));
-      end = p .1 .end;
-    }
+    let start = c .before .before .before .before .before .before .before in
+    let same = stands start in
+    let from = c .before .before .before .field in
+    let to = c .before .before .field2 in (
+      record { near = omega (arith, near start); few = omega (arith, sound start .few-bands, same .count-is); count-is = refl; inside = omega (arith, same .inside, same .count-is) },
+      record {
+        order = order-there _ _ _ same (in-order _ _ (sound start));
+        from-place = start .pre .1 .each (from .result) (omega (arith, from .ensures, same .from-is, from-below start));
+        to-place = start .pre .1 .each (to .result) (omega (arith, to .ensures, same .to-is, to-below start));
+        end = start .pre .1 .end;
+      },
+    )
 
 returns : tie.Need-returns
 returns c =
-    let a = c .before .before .before .before .before .before .before .before .before .args in
+    let start = c .before .before .before .before .before .before .before .before in
+    let a = start .args in
     let s = a .sheet .now in
     let index = a .index .now in
-    subst (λ (l : Leg). Is (c .leg-obeys .result) (RuleB (a .latest) l (placeAt s (getD index (l .from) 0)) (placeAt s (getD index (l .to) 0)))) (this-leg (c .before .before .before .before .before)) (c .leg-obeys .ensures)
+    let same = stands start in
+    let leg = legOf (a .net .now) (a .k) in
+    let from = c .before .before .before .before .field in
+    let to = c .before .before .before .field2 in
+    let rule = rule-there (a .net .now) (getD (a .chart .now) (a .k) 0) leg (a .latest) (placeAt s (getD index (from .result) 0)) (placeAt s (getD index (to .result) 0)) (c .leg-obeys .result) same (c .leg-obeys .ensures) in
+    subst (λ p. Is (c .leg-obeys .result) (RuleB (a .latest) leg (placeAt s (getD index p 0)) (placeAt s (getD index (leg .to) 0)))) (from .ensures ∙ same .from-is)
+    (subst (λ p. Is (c .leg-obeys .result) (RuleB (a .latest) leg (placeAt s (getD index (from .result) 0)) (placeAt s (getD index p 0)))) (to .ensures ∙ same .to-is) rule)
 
 pub leg-rules-spec : {M : Type 1} → statement M
 leg-rules-spec =
     tie.close
     (tie.spec
-    mul-leg-at
-    element-copy-out-leg-at
-    leg-at-requires
+    mul-leg
+    element-copy-out-leg
+    cast-leg
+    field-requires
     cast-from
+    add-field
+    field-requires-2
     cast-to
     mul-leg-obeys
     element-copy-out-leg-obeys
