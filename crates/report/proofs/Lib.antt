@@ -1,2 +1,3 @@
 pub mod Riding
 pub mod Telling
+pub mod Once
