@@ -76,7 +76,7 @@ returns-3 c =
     let one = verdict-one s (λ z. c .before .before .before .before .before .before .if1 .left (d .verdict ∙ z)) in
     let all : l .k ≡ field s 77 12 = omega (arith, c .before .before .before .loop-test .left, l .inv .0, l .inv .1) in
     λ h.
-    c .if3 .taken (ends-there (a .net .now) s (c .before .before .before .before .before .before .before .before .before .before .pre .1) (l .state) (rw all at (l .inv .3)) (h one) ∙ ap (λ (q : Query). q .end) (sym (d .query)))
+    omega (arith, c .if3 .taken, ends-there (a .net .now) s (c .before .before .before .before .before .before .before .before .before .before .pre .1) (l .state) (rw all at (l .inv .3)) (h one), ap (λ (q : Query). q .end) (d .query))
 
 returns-4 : tie.Need-returns-4 Inv-loop μ-loop
 returns-4 c =
@@ -89,8 +89,8 @@ returns-4 c =
     λ h.
     omega (arith, c .if4 .taken, ends-by (a .net .now) s (c .before .before .before .before .before .before .before .before .before .before .before .before .before .pre .1) (l .state) (rw all at (l .inv .3)) (h one), ap (λ (q : Query). q .latest) (d .query))
 
-cast-result : tie.Need-cast-result Inv-loop μ-loop
-cast-result c = search needs
+cast-stated : tie.Need-cast-stated Inv-loop μ-loop
+cast-stated c = search needs
 
 returns-5 : tie.Need-returns-5 Inv-loop μ-loop
 returns-5 c =
@@ -118,5 +118,5 @@ plan-holds-spec =
     loop-again
     returns-3
     returns-4
-    cast-result
+    cast-stated
     returns-5)
