@@ -77,7 +77,8 @@ fn ride(net: &[u8], size: Size, chart: &[u32; 512], plan: &[u8], k: usize, state
     if leg.from != state.place {
         return off(state);
     }
-    if departure < state.time {
+    let arrived = state.time;
+    if departure < arrived {
         return off(state);
     }
     let toll = leg.toll_at(Minute(departure));
@@ -113,14 +114,19 @@ fn plan_holds(net: &[u8], size: Size, chart: &[u32; 512], plan: &[u8], read: Pla
         }
         k += 1;
     }
-    if state.place != query.end {
+    let place = state.place;
+    let end = query.end;
+    if place != end {
         return false;
     }
-    if query.latest.0 < state.time {
+    let latest = query.latest.0;
+    let time = state.time;
+    if latest < time {
         return false;
     }
     let stated = read.cost.0 as u64;
-    state.cost == stated
+    let cost = state.cost;
+    cost == stated
 }
 
 // Rule (a): does the place have the value 0 at earliest?
