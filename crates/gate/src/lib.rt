@@ -7,7 +7,7 @@ ghost use Rattle.network.specs.declared.NetworkFound.{NetworkFound};
 ghost use Rattle.network.specs.Network.{ofFile};
 ghost use Rattle.network.specs.Answers.{networkFound};
 ghost use Rattle.plan_file.specs.PlanFile.{queryOf};
-ghost use Rattle.plan_reader.specs.InPlace.{rideAt, fileAt, Told, Says, Headed};
+ghost use Rattle.plan_reader.specs.InPlace.{rideAt, fileAt, Says, Headed};
 ghost use mathlib.Core.Option.{some};
 ghost use Rattle.plan.specs.Sheet.{value};
 ghost use Rattle.sheet_file.specs.InPlace.{placeAt};
@@ -77,7 +77,8 @@ fn ride(net: &[u8], size: Size, chart: &[u32; 512], plan: &[u8], k: usize, state
     if leg.from != state.place {
         return off(state);
     }
-    if departure < state.time {
+    let arrived = state.time;
+    if departure < arrived {
         return off(state);
     }
     let toll = leg.toll_at(Minute(departure));
@@ -113,13 +114,19 @@ fn plan_holds(net: &[u8], size: Size, chart: &[u32; 512], plan: &[u8], read: Pla
         }
         k += 1;
     }
-    if state.place != query.end {
+    let place = state.place;
+    let end = query.end;
+    if place != end {
         return false;
     }
-    if query.latest.0 < state.time {
+    let latest = query.latest.0;
+    let time = state.time;
+    if latest < time {
         return false;
     }
-    state.cost == read.cost.0 as u64
+    let stated = read.cost.0 as u64;
+    let cost = state.cost;
+    cost == stated
 }
 
 // Rule (a): does the place have the value 0 at earliest?
@@ -129,7 +136,7 @@ fn starts(sheet: &[u8], place: u32, earliest: u32, latest: u32) -> bool
 {
     let first = rule_b::value_at(sheet, place, earliest, earliest, latest);
     if !first.has {
-        return false;
+        return false; // no value at all
     }
     first.price == 0
 }

@@ -74,7 +74,8 @@ pub fn plan_from(plan: &[u8]) -> Plan
     if plan.len() < 12 {
         return no_plan();
     }
-    if reader::field(plan, 0, 8) != Plan::EDITION {
+    let edition = reader::field(plan, 0, 8);
+    if edition != Plan::EDITION {
         return no_plan();
     }
     let read = head(plan);

@@ -85,11 +85,13 @@ pub fn read(net: &[u8], list: &mut [u32]) -> Answer
         NetworkFound::Refused(why) => Answer::Refused(why),
         NetworkFound::Sound(size) => {
             let count = 3 + 4 * size.legs + 2 * size.bands;
-            if list.len() < count {
+            let room = list.len();
+            if room < count {
                 return Answer::Refused(Refusal::Room);
             }
             list_network(net, list, size);
-            Answer::Done(count as u32)
+            let length = count as u32;
+            Answer::Done(length)
         }
     }
 }

@@ -2,7 +2,7 @@
 ghost use mathlib.Core.Path.{_≡_};
 ghost use Prim.Native.Nat.{_+_, _*_, _≤_, _<_};
 ghost use lib.ListN.{length};
-ghost use Rattle.plan.specs.Sheet.{Steps, value};
+ghost use Rattle.plan.specs.Sheet.{value};
 ghost use Rattle.sheet_file.specs.Window.{window};
 ghost use Rattle.sheet_file.specs.InPlace.{stepsAt, placeAt, countAt};
 ghost use Rattle.rule_b.specs.Rule.{Is, RuleB, InOrder};

@@ -2,10 +2,9 @@
 ghost use mathlib.Core.Path.{_≡_};
 ghost use mathlib.Core.Bool.{false};
 ghost use Prim.Native.Nat.{_+_, _*_, _≤_};
-ghost use Rattle.bits.specs.Field.{field};
 ghost use Rattle.source.specs.Source.{fileOf};
-ghost use Rattle.sheet_file.specs.SheetFile.{step, steps, onePlace, top, sheetOf, anyCost};
-ghost use Rattle.sheet_file.specs.InPlace.{stepAt, stepsAt, placeAt, countAt, Tested, Judged};
+ghost use Rattle.sheet_file.specs.SheetFile.{step, steps, top, sheetOf, anyCost};
+ghost use Rattle.sheet_file.specs.InPlace.{stepsAt, Tested, Judged};
 ghost use Rattle.sheet_file.specs.Window.{StepIs, PlaceIs, window};
 
 // A step, where it is sound.

@@ -1,12 +1,12 @@
 // The walk back: from a filled table the named plan is found ride by ride from the end, and put into the plan file as it is found.
 ghost use mathlib.Core.Path.{_≡_};
 ghost use mathlib.Core.Logic.{_≢_};
-ghost use Prim.Native.Nat.{ℕ, _+_, _*_, _/_, _%_, _≤_, _<_};
+ghost use Prim.Native.Nat.{_+_, _*_, _/_, _%_, _≤_, _<_};
 ghost use lib.ListN.{length};
 ghost use Rattle.plan.specs.Table.{cellAt};
 ghost use Rattle.plan_file.specs.PlanFile.{InWidth, queryOf, planBytes, noneFile, FileOf};
 ghost use Rattle.walk.specs.Cells.{InTable, FirstLike};
-ghost use Rattle.walk.specs.Walk.{netOf, Walkable, Tells, legAt, LegStands, ReadsFrom, Departing, Arriving, Hops, RoomFor, Walked, Ending, NamedFile};
+ghost use Rattle.walk.specs.Walk.{netOf, Tells, legAt, LegStands, ReadsFrom, Departing, Arriving, Hops, RoomFor, Walked, Ending, NamedFile};
 use leg::Cents;
 use leg::Leg;
 use leg::Minute;

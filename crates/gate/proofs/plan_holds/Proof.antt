@@ -69,39 +69,39 @@ loop-again c =
 
 returns-3 : tie.Need-returns-3 Inv-loop μ-loop
 returns-3 c =
+    let a = c .before .before .before .before .before .before .before .before .args in
+    let l = c .before .before .loop in
+    let d = c .before .before .before .before .before .before .before .before .pre .2 in
+    let s = a .plan .now in
+    let one = verdict-one s (λ z. c .before .before .before .before .if1 .left (d .verdict ∙ z)) in
+    let all : l .k ≡ field s 77 12 = omega (arith, c .before .loop-test .left, l .inv .0, l .inv .1) in
+    λ h.
+    omega (arith, c .if3 .taken, ends-there (a .net .now) s (c .before .before .before .before .before .before .before .before .pre .1) (l .state) (rw all at (l .inv .3)) (h one), ap (λ (q : Query). q .end) (d .query))
+
+returns-4 : tie.Need-returns-4 Inv-loop μ-loop
+returns-4 c =
+    let a = c .before .before .before .before .before .before .before .before .before .args in
+    let l = c .before .before .before .loop in
+    let d = c .before .before .before .before .before .before .before .before .before .pre .2 in
+    let s = a .plan .now in
+    let one = verdict-one s (λ z. c .before .before .before .before .before .if1 .left (d .verdict ∙ z)) in
+    let all : l .k ≡ field s 77 12 = omega (arith, c .before .before .loop-test .left, l .inv .0, l .inv .1) in
+    λ h.
+    omega (arith, c .if4 .taken, ends-by (a .net .now) s (c .before .before .before .before .before .before .before .before .before .pre .1) (l .state) (rw all at (l .inv .3)) (h one), ap (λ (q : Query). q .latest) (d .query))
+
+cast-stated : tie.Need-cast-stated Inv-loop μ-loop
+cast-stated c = search needs
+
+returns-5 : tie.Need-returns-5 Inv-loop μ-loop
+returns-5 c =
     let a = c .before .before .before .before .before .before .before .before .before .before .args in
     let l = c .before .before .before .before .loop in
     let d = c .before .before .before .before .before .before .before .before .before .before .pre .2 in
     let s = a .plan .now in
     let one = verdict-one s (λ z. c .before .before .before .before .before .before .if1 .left (d .verdict ∙ z)) in
     let all : l .k ≡ field s 77 12 = omega (arith, c .before .before .before .loop-test .left, l .inv .0, l .inv .1) in
-    λ h.
-    c .if3 .taken (ends-there (a .net .now) s (c .before .before .before .before .before .before .before .before .before .before .pre .1) (l .state) (rw all at (l .inv .3)) (h one) ∙ ap (λ (q : Query). q .end) (sym (d .query)))
-
-returns-4 : tie.Need-returns-4 Inv-loop μ-loop
-returns-4 c =
-    let a = c .before .before .before .before .before .before .before .before .before .before .before .before .before .args in
-    let l = c .before .before .before .before .before .before .before .loop in
-    let d = c .before .before .before .before .before .before .before .before .before .before .before .before .before .pre .2 in
-    let s = a .plan .now in
-    let one = verdict-one s (λ z. c .before .before .before .before .before .before .before .before .before .if1 .left (d .verdict ∙ z)) in
-    let all : l .k ≡ field s 77 12 = omega (arith, c .before .before .before .before .before .before .loop-test .left, l .inv .0, l .inv .1) in
-    λ h.
-    omega (arith, c .if4 .taken, ends-by (a .net .now) s (c .before .before .before .before .before .before .before .before .before .before .before .before .before .pre .1) (l .state) (rw all at (l .inv .3)) (h one), ap (λ (q : Query). q .latest) (d .query))
-
-cast-result : tie.Need-cast-result Inv-loop μ-loop
-cast-result c = search needs
-
-returns-5 : tie.Need-returns-5 Inv-loop μ-loop
-returns-5 c =
-    let a = c .before .before .before .before .before .before .before .before .before .before .before .before .before .before .before .args in
-    let l = c .before .before .before .before .before .before .before .before .before .loop in
-    let d = c .before .before .before .before .before .before .before .before .before .before .before .before .before .before .before .pre .2 in
-    let s = a .plan .now in
-    let one = verdict-one s (λ z. c .before .before .before .before .before .before .before .before .before .before .before .if1 .left (d .verdict ∙ z)) in
-    let all : l .k ≡ field s 77 12 = omega (arith, c .before .before .before .before .before .before .before .before .loop-test .left, l .inv .0, l .inv .1) in
-    last-test (a .net .now) s (c .before .before .before .before .before .before .before .before .before .before .before .before .before .before .before .pre .1) (l .state) (rw all at (l .inv .3)) _ (a .read .cost .0) (d .cost) refl one
-    (c .before .before .before .before .before .if3 .left ∙ ap (λ (q : Query). q .end) (d .query)) (omega (arith, c .before .before .if4 .left, ap (λ (q : Query). q .latest) (d .query)))
+    last-test (a .net .now) s (c .before .before .before .before .before .before .before .before .before .before .pre .1) (l .state) (rw all at (l .inv .3)) _ (a .read .cost .0) (d .cost) refl one
+    (c .before .before .if3 .left ∙ ap (λ (q : Query). q .end) (d .query)) (omega (arith, c .before .if4 .left, ap (λ (q : Query). q .latest) (d .query)))
 
 pub plan-holds-spec : {M : Type 1} → statement M
 plan-holds-spec =
@@ -118,5 +118,5 @@ plan-holds-spec =
     loop-again
     returns-3
     returns-4
-    cast-result
+    cast-stated
     returns-5)

@@ -79,39 +79,39 @@ off-requires-3 c κs = search needs
 
 returns-3 : tie.Need-returns-3
 returns-3 c =
-    let a = c .before .before .before .before .before .before .before .before .before .before .before .before .before .before .args in
+    let a = c .before .before .before .before .before .before .before .before .before .before .before .before .before .args in
     let n = a .net .now in
     rode-not (theoryAt n) (rideAt (a .plan .now) (a .k)) (a .state) (c .off3 .result) (c .off3 .ensures)
-    (λ b. omega (arith, b .after, c .before .before .before .before .before .before .before .before .before .before .before .pair .ensures .1, c .before .if3 .taken))
+    (λ b. omega (arith, b .after, c .before .before .before .before .before .before .before .before .before .before .pair .ensures .1, c .before .if3 .taken))
 
 toll-at-requires : tie.Need-toll-at-requires
 toll-at-requires c κs =
-    its-sound (c .before .before .before .before .before) .few-bands
+    its-sound (c .before .before .before .before) .few-bands
 
-add-t17 : tie.Need-add-t17
-add-t17 c =
-    omega (arith, its-sound (c .before .before .before .before .before .before .before) .time-within, c .before .before .before .before .before .before .before .before .before .before .before .before .pair .ensures .1, field-below (c .before .before .before .before .before .before .before .before .before .before .before .before .before .before .before .args .plan .now) (89 + 21 * c .before .before .before .before .before .before .before .before .before .before .before .before .before .before .before .args .k + 9) 12)
+add-t18 : tie.Need-add-t18
+add-t18 c =
+    omega (arith, its-sound (c .before .before .before .before .before .before) .time-within, c .before .before .before .before .before .before .before .before .before .before .before .pair .ensures .1, field-below (c .before .before .before .before .before .before .before .before .before .before .before .before .before .before .args .plan .now) (89 + 21 * c .before .before .before .before .before .before .before .before .before .before .before .before .before .before .args .k + 9) 12)
 
-cast-t19 : tie.Need-cast-t19
-cast-t19 c = search needs
+cast-t20 : tie.Need-cast-t20
+cast-t20 c = search needs
 
-add-t20 : tie.Need-add-t20
-add-t20 c =
-    omega (arith, c .before .before .before .toll-at .ensures, toll-small _ _ (c .before .before .before .before .before .before .before .before .before .before .before .before .before .before .pair .result .second) (its-sound (c .before .before .before .before .before .before .before .before .before)), c .before .before .before .before .before .before .before .before .before .before .before .before .before .before .before .before .before .pre .3)
+add-t21 : tie.Need-add-t21
+add-t21 c =
+    omega (arith, c .before .before .before .toll-at .ensures, toll-small _ _ (c .before .before .before .before .before .before .before .before .before .before .before .before .before .pair .result .second) (its-sound (c .before .before .before .before .before .before .before .before)), c .before .before .before .before .before .before .before .before .before .before .before .before .before .before .before .before .pre .3)
 
 returns-4 : tie.Need-returns-4
 returns-4 c =
-    let a = c .before .before .before .before .before .before .before .before .before .before .before .before .before .before .before .before .before .args in
+    let a = c .before .before .before .before .before .before .before .before .before .before .before .before .before .before .before .before .args in
     let n = a .net .now in
-    let w = c .before .before .before .before .before .before .before .before .before in
-    let leg = c .before .before .before .before .before .before .before .before .before .leg-at .result in
-    let number = c .before .before .before .before .before .before .before .before .before .before .before .before .before .before .pair .ensures .0 in
-    let when = c .before .before .before .before .before .before .before .before .before .before .before .before .before .before .pair .ensures .1 in
-    let low : rideAt (a .plan .now) (a .k) .leg < length (netAt n .legs) = omega (arith, number, c .before .before .before .before .before .before .before .before .before .before .before .if1 .left, read n (a .size) (a .chart .now) (c .before .before .before .before .before .before .before .before .before .before .before .before .before .before .before .before .before .pre .0) .legs) in
+    let w = c .before .before .before .before .before .before .before .before in
+    let leg = c .before .before .before .before .before .before .before .before .leg-at .result in
+    let number = c .before .before .before .before .before .before .before .before .before .before .before .before .before .pair .ensures .0 in
+    let when = c .before .before .before .before .before .before .before .before .before .before .before .before .before .pair .ensures .1 in
+    let low : rideAt (a .plan .now) (a .k) .leg < length (netAt n .legs) = omega (arith, number, c .before .before .before .before .before .before .before .before .before .before .if1 .left, read n (a .size) (a .chart .now) (c .before .before .before .before .before .before .before .before .before .before .before .before .before .before .before .before .pre .0) .legs) in
     let toll = c .before .before .before .toll-at in
-    let small = toll-small _ _ (c .before .before .before .before .before .before .before .before .before .before .before .before .before .before .pair .result .second) (its-sound w) in
+    let small = toll-small _ _ (c .before .before .before .before .before .before .before .before .before .before .before .before .before .pair .result .second) (its-sound w) in
     rw when
-    (rode-on n (rideAt (a .plan .now) (a .k)) (a .state) leg (toll .result .0) (this-leg w ∙ ap (λ (x : ℕ). legOf n x) number) low (c .before .before .before .before .before .before .if2 .left)
+    (rode-on n (rideAt (a .plan .now) (a .k)) (a .state) leg (toll .result .0) (this-leg w ∙ ap (λ (x : ℕ). legOf n x) number) low (c .before .before .before .before .before .if2 .left)
     (omega (arith, when, c .before .before .before .before .if3 .left)) (toll .ensures ∙ ap (λ (t : ℕ). tollAt leg t) when) (omega (arith, toll .ensures, small)))
 
 pub ride-spec : {M : Type 1} → statement M
@@ -132,7 +132,7 @@ ride-spec =
     off-requires-3
     returns-3
     toll-at-requires
-    add-t17
-    cast-t19
-    add-t20
+    add-t18
+    cast-t20
+    add-t21
     returns-4)

@@ -26,7 +26,7 @@ no-plan-requires-2 c κs = search needs
 returns-2 : tie.Need-returns-2
 returns-2 c =
     let s = c .before .before .before .before .before .args .plan .now in
-    told-no s (c .no-plan2 .result) (c .no-plan2 .ensures) (λ f h. c .before .if2 .taken (c .before .before .field .ensures ∙ says-edition s f h))
+    told-no s (c .no-plan2 .result) (c .no-plan2 .ensures) (λ f h. omega (arith, c .before .if2 .taken, c .before .before .field .ensures, says-edition s f h))
 
 head-requires : tie.Need-head-requires
 head-requires c κs = search needs
@@ -46,7 +46,7 @@ returns-4 : tie.Need-returns-4
 returns-4 c =
     let s = c .before .before .before .before .before .before .before .before .before .before .before .args .plan .now in
     let d = c .before .before .before .before .before .before .head .ensures in
-    told-no s (c .no-plan4 .result) (c .no-plan4 .ensures) (λ f h. c .before .if5 .taken (d .cost ∙ says-price s f h (sym (d .verdict) ∙ c .before .before .before .if4 .taken)))
+    told-no s (c .no-plan4 .result) (c .no-plan4 .ensures) (λ f h. omega (arith, c .before .if5 .taken, d .cost, says-price s f h (sym (d .verdict) ∙ c .before .before .before .if4 .taken)))
 
 no-plan-requires-5 : tie.Need-no-plan-requires-5
 no-plan-requires-5 c κs = search needs
@@ -55,7 +55,7 @@ returns-5 : tie.Need-returns-5
 returns-5 c =
     let s = c .before .before .before .before .before .before .before .before .before .before .before .before .args .plan .now in
     let d = c .before .before .before .before .before .before .before .head .ensures in
-    told-no s (c .no-plan5 .result) (c .no-plan5 .ensures) (λ f h. c .before .if6 .taken (d .legs ∙ says-legs s f h (sym (d .verdict) ∙ c .before .before .before .before .if4 .taken)))
+    told-no s (c .no-plan5 .result) (c .no-plan5 .ensures) (λ f h. omega (arith, c .before .if6 .taken, d .legs, says-legs s f h (sym (d .verdict) ∙ c .before .before .before .before .if4 .taken)))
 
 mul-ends : tie.Need-mul-ends
 mul-ends c = search needs

@@ -27,6 +27,16 @@ Inv-loop net list₀ no-list places legs at₀ place₀ k₀ list at place k =
 abbrev μ-loop : tie.MeasureT-loop
 μ-loop net list₀ no-list places legs at₀ place₀ k₀ list at place k = legs - k
 
+returns : tie.Need-returns Inv-loop μ-loop
+returns c =
+    let a = c .before .before .before .before .before .before .before .before .args in
+    let l = c .before .loop in
+    let f = sound-file (a .net .now) (a .size) (c .before .before .before .before .before .before .before .before .pre .0) in
+    let all = listing-all (a .net .now) (a .size .places) (a .size .legs) _ (f .net .legs) (f .end) (f .legs-read) (l .k) (l .place) (l .at) (l .list) (l .inv .4) (omega arith) in
+    all
+    ∙ ap (λ (x : List ℕ). sets x 3 (values (legsFields edition1 (f .net .legs)))) (c .before .before .before .before .two .ensures)
+    ∙ listed-all (a .net .now) (a .list .now) (a .size) f (c .before .before .before .before .before .before .before .before .pre .1)
+
 slice-write-list : tie.Need-slice-write-list Inv-loop μ-loop
 slice-write-list c = search needs
 
@@ -109,16 +119,6 @@ loop-again c =
 
 same-length : tie.Need-same-length Inv-loop μ-loop
 same-length c = omega (arith, c .before .loop .inv .3, c .before .before .before .before .two .kept .0, length-set (c .before .before .before .before .before .before .before .before .args .list .now) 0 1)
-
-returns : tie.Need-returns Inv-loop μ-loop
-returns c =
-    let a = c .before .before .before .before .before .before .before .before .args in
-    let l = c .before .loop in
-    let f = sound-file (a .net .now) (a .size) (c .before .before .before .before .before .before .before .before .pre .0) in
-    let all = listing-all (a .net .now) (a .size .places) (a .size .legs) _ (f .net .legs) (f .end) (f .legs-read) (l .k) (l .place) (l .at) (l .list) (l .inv .4) (omega arith) in
-    all
-    ∙ ap (λ (x : List ℕ). sets x 3 (values (legsFields edition1 (f .net .legs)))) (c .before .before .before .before .two .ensures)
-    ∙ listed-all (a .net .now) (a .list .now) (a .size) f (c .before .before .before .before .before .before .before .before .pre .1)
 
 pub list-network-spec : {M : Type 1} → statement M
 list-network-spec =

@@ -47,17 +47,17 @@ returns c = reads-short _ _ _ (size-told (c .before .before .before .before)) (c
 list-network-requires : tie.Need-list-network-requires
 list-network-requires c κs = (size-told (c .before .before .before .before .before), c .before .if1 .left)
 
-cast-t20 : tie.Need-cast-t20
-cast-t20 c = omega (arith, small (c .before .before .before .before .before .before .before .before))
+returns-3 : tie.Need-returns-3
+returns-3 c = reads-done _ _ _ (size-told (c .before .before .before .before .before .before .before .before)) _ _ refl (c .before .before .before .before .if1 .left) (c .before .before .list-network .ensures)
+
+cast-length : tie.Need-cast-length
+cast-length c = omega (arith, small (c .before .before .before .before .before .before .before .before))
 
 returns-2 : tie.Need-returns-2
 returns-2 c = reads-refused _ _ _ (sym (c .before .before .before .network-from .ensures) ∙ c .before .found .given .1)
 
 same-length : tie.Need-same-length
 same-length c = search needs
-
-returns-3 : tie.Need-returns-3
-returns-3 c = reads-done _ _ _ (size-told (c .before .before .before .before .before .before .before .before)) _ _ refl (c .before .before .before .before .if1 .left) (c .before .before .list-network .ensures)
 
 pub read-spec : {M : Type 1} → statement M
 read-spec =
@@ -73,7 +73,7 @@ read-spec =
     add-count-2
     returns
     list-network-requires
-    cast-t20
+    cast-length
     returns-2
     same-length
     returns-3)

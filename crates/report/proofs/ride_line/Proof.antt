@@ -1,4 +1,3 @@
-use Prim.Native.Nat.{_+_}
 use Rattle.plan_file.specs.PlanFile.{queryOf}
 use Rattle.report.proofs.Riding.{ridden-less, last-ride, ride-said}
 use Prim.Native.Nat.{_+_}
@@ -6,6 +5,13 @@ use native.Mathlib.Omega.{arith}
 use borrow.Author.Needs.{needs}
 use Rattle.report.proofs.ride_line.Statement.{statement}
 use Rattle.report.proofs.ride_line.Tie as tie
+
+returns : tie.Need-returns
+returns c =
+    let e = c .before .before .leg-line .ensures in (
+      ride-said _ _ _ _ _ _ _ _ _ _ (c .before .before .before .before .before .pair .ensures .0) (c .before .before .before .before .before .pair .ensures .1) (c .before .before .before .before .arrival-after .ensures) (e .0),
+      e .1,
+    )
 
 mul-place : tie.Need-mul-place
 mul-place c = search needs
@@ -18,7 +24,7 @@ pair-requires c κs = search needs
 
 arrival-after-requires : tie.Need-arrival-after-requires
 arrival-after-requires c κs =
-    (c .before .before .before .before .pre .0, ridden-less (c .before .before .before .before .args .net .now) (c .before .before .before .before .args .size) (c .before .before .before .before .args .plan .now) (queryOf (c .before .before .before .before .args .query)) (c .before .before .before .before .args .k + 1) (c .before .before .before .before .args .k) (omega arith) (c .before .before .before .before .pre .1))
+    (c .before .before .before .before .pre .0, ridden-less (c .before .before .before .before .args .net .now) (c .before .before .before .before .args .size) (c .before .before .before .before .args .plan .now) (queryOf (c .before .before .before .before .args .query)) (c .before .before .before .before .args .k + 1) _ (omega arith) (c .before .before .before .before .pre .1))
 
 sub-leg-line : tie.Need-sub-leg-line
 sub-leg-line c =
@@ -29,13 +35,6 @@ leg-line-requires c κs = search needs
 
 same-length : tie.Need-same-length
 same-length c = search needs
-
-returns : tie.Need-returns
-returns c =
-    let e = c .before .before .leg-line .ensures in (
-      ride-said _ _ _ _ _ _ _ _ _ _ (c .before .before .before .before .before .pair .ensures .0) (c .before .before .before .before .before .pair .ensures .1) (c .before .before .before .before .arrival-after .ensures) (e .0),
-      e .1,
-    )
 
 pub ride-line-spec : {M : Type 1} → statement M
 ride-line-spec =
