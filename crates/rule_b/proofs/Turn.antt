@@ -1,7 +1,7 @@
 -- One turn of the walk along a leg: from one departure that is tested to the next. Assumes nothing.
 use Prim.Native.Nat.{ℕ, zero, suc, _+_, _≤_, _<_}
 use native.Mathlib.Omega.{arith}
-use mathlib.Core.Path.{_≡_, refl, _∙_}
+use mathlib.Core.Path.{_≡_, refl, _∙_, subst}
 use mathlib.Core.Bool.{Bool, true, false}
 use mathlib.Core.Option.{some}
 use mathlib.Core.List.{List}
@@ -36,6 +36,10 @@ pub record Walking (s : List ℕ) (leg : Leg) (from to : ℕ) (q : Query) (i j :
   pub bands : Banded leg d tolls
   pub before : RuleBefore (q .latest) leg (placeAt s from) (placeAt s to) d
   pub upto : d ≤ 4096
+
+-- the same minute under another name
+pub moved-at : (s : List ℕ) (t t′ : Minute) (old new : Cursor) → Moved s t old new → t ≡ t′ → Moved s t′ old new
+moved-at s t t′ old new m e = subst (λ u. Moved s u old new) e m
 
 held-next : (s : List ℕ) (c : Cursor) → Held s c → c .next ≤ 4096
 held-next s c h = at (c .left) refl

@@ -3,9 +3,9 @@ use borrow.Author.Tests.{not-true, not-false}
 use Rattle.sheet_file.specs.Window.{window}
 use Rattle.rule_b.specs.Cursor.{shown, Covers, Or}
 use Rattle.rule_b.specs.InFile.{legAt, LegThere}
-use Rattle.rule_b.proofs.Turn.{Walking, is-true, is-false, walking-start, turn-broken, turn-on, walking-done}
+use Rattle.rule_b.proofs.Turn.{moved-at, Walking, is-true, is-false, walking-start, turn-broken, turn-on, walking-done}
 use borrow.Author.Needs.{needs}
-use Prim.Native.Nat.{ℕ, _-_, _<_}
+use Prim.Native.Nat.{ℕ, _+_, _-_, _<_}
 use native.Mathlib.Omega.{arith}
 use mathlib.Core.Path.{_≡_, refl}
 use Rattle.rule_b.proofs.leg_obeys.Statement.{statement}
@@ -93,7 +93,7 @@ returns c =
     let b = c .before .before .before .begun in
     let j = c .before .before .forward2 in
     let bad = is-false (c .before .covered .result) (Covers (shown (i .result .has) (i .result .price)) (shown (j .result .has) (j .result .price)) (b .result .toll)) (not-true _ (c .if1 .taken)) (c .before .covered .ensures) in
-    turn-broken (a .sheet .now) (legAt (a .net .now) (a .leg)) (a .from) (a .to) (window (a .earliest) (a .latest)) (l .i) (l .j) (l .tolls) (l .departure) (l .inv .0) (rw (l .inv .1) at (c .before .before .before .before .before .loop-test .taken)) (i .result) (i .ensures) (b .result) (b .ensures .0) (b .ensures .1) (j .result) (rw (l .inv .1) at (j .ensures)) bad
+    turn-broken (a .sheet .now) (legAt (a .net .now) (a .leg)) (a .from) (a .to) (window (a .earliest) (a .latest)) (l .i) (l .j) (l .tolls) (l .departure) (l .inv .0) (rw (l .inv .1) at (c .before .before .before .before .before .loop-test .taken)) (i .result) (i .ensures) (b .result) (b .ensures .0) (b .ensures .1) (j .result) (moved-at (a .sheet .now) _ (l .departure + legAt (a .net .now) (a .leg) .time .0) (l .j) (j .result) (j .ensures) (omega (arith, l .inv .1))) bad
 
 sooner-requires : tie.Need-sooner-requires Inv-loop μ-loop
 sooner-requires c κs = search needs
@@ -106,7 +106,7 @@ loop-again c =
     let b = c .before .before .before .before .begun in
     let j = c .before .before .before .forward2 in
     let good = is-true (c .before .before .covered .result) (Covers (shown (i .result .has) (i .result .price)) (shown (j .result .has) (j .result .price)) (b .result .toll)) (not-false _ (c .before .if1 .left)) (c .before .before .covered .ensures) in (
-      turn-on (a .sheet .now) (legAt (a .net .now) (a .leg)) (a .from) (a .to) (window (a .earliest) (a .latest)) (l .i) (l .j) (l .tolls) (l .departure) (l .inv .0) (rw (l .inv .1) at (c .before .before .before .before .before .before .loop-test .taken)) (i .result) (i .ensures) (b .result) (b .ensures .0) (b .ensures .1) (j .result) (rw (l .inv .1) at (j .ensures)) good
+      turn-on (a .sheet .now) (legAt (a .net .now) (a .leg)) (a .from) (a .to) (window (a .earliest) (a .latest)) (l .i) (l .j) (l .tolls) (l .departure) (l .inv .0) (rw (l .inv .1) at (c .before .before .before .before .before .before .loop-test .taken)) (i .result) (i .ensures) (b .result) (b .ensures .0) (b .ensures .1) (j .result) (moved-at (a .sheet .now) _ (l .departure + legAt (a .net .now) (a .leg) .time .0) (l .j) (j .result) (j .ensures) (omega (arith, l .inv .1))) good
           (c .sooner .result) (c .sooner .ensures .0) (c .sooner .ensures .1) (lies (c .sooner .ensures .2) (i .ensures .past) (b .ensures .1)),
       l .inv .1,
       l .inv .2,
