@@ -15,16 +15,20 @@ pub struct Reply {
     pub length: u32,
 }
 
+// A number and a length, each in its place.
+fn reply_of(number: u32, length: u32) -> Reply
+    ensures { λ r. ⌜ (r .number ≡ number) × (r .length ≡ length) ⌝ }
+{
+    Reply { number, length }
+}
+
 // A network file's fields as a list of numbers.
 #[no_mangle]
 pub extern "C" fn haul_read(net: &[u8], list: &mut [u32]) -> Reply
     ensures { λ r. ⌜ Replies (Reads (now (net .entry)) (now (list .entry)) (now (list .exit))) r ⌝ }
 {
     let answer = read_call::read(net, list);
-    Reply {
-        number: answer.number(),
-        length: answer.length(),
-    }
+    reply_of(answer.number(), answer.length())
 }
 
 // A list of numbers as a network file.
@@ -33,10 +37,7 @@ pub extern "C" fn haul_write(list: &[u32], out: &mut [u8]) -> Reply
     ensures { λ r. ⌜ Replies (Writes (now (list .entry)) (now (out .entry)) (now (out .exit))) r ⌝ }
 {
     let answer = write_call::write(list, out);
-    Reply {
-        number: answer.number(),
-        length: answer.length(),
-    }
+    reply_of(answer.number(), answer.length())
 }
 
 // The named plan of a query, as a plan file, with the minute table.
@@ -53,10 +54,7 @@ pub extern "C" fn haul_plan(
     ensures { λ r. ⌜ PlanReplies (Plans (now (net .entry)) (asking start end earliest latest) (now (table .entry)) (now (table .exit)) (now (out .entry)) (now (out .exit))) r ⌝ }
 {
     let answer = plan_call::plan(net, start, end, earliest, latest, table, out);
-    Reply {
-        number: answer.number(),
-        length: answer.length(),
-    }
+    reply_of(answer.number(), answer.length())
 }
 
 // The bound sheet of a query, with the same table.
@@ -73,10 +71,7 @@ pub extern "C" fn haul_sheet(
     ensures { λ r. ⌜ PlanReplies (Sheets (now (net .entry)) (asking start end earliest latest) (now (table .entry)) (now (table .exit)) (now (out .entry)) (now (out .exit))) r ⌝ }
 {
     let answer = sheet_call::sheet(net, start, end, earliest, latest, table, out);
-    Reply {
-        number: answer.number(),
-        length: answer.length(),
-    }
+    reply_of(answer.number(), answer.length())
 }
 
 // A plan and a bound sheet judged against a network, whoever wrote them.
