@@ -102,8 +102,8 @@ fn put_among(s: &mut [u8], at: usize, width: usize, value: u32, count: usize)
     scatter(s, i, count, word);
 }
 
-// The field of `width` bits at bit `at` becomes `value`; every other bit is kept. Eight bytes at once where they are there: one
-// load and one store. Near the end, just the bytes that hold the field.
+// The field of `width` bits at bit `at` becomes `value`; every other bit is kept. Eight bytes in one store where they are
+// there; near the end, just the bytes that hold the field.
 pub fn put(s: &mut [u8], at: usize, width: usize, value: u32)
     requires { ⌜ (1 ≤ width) × (width ≤ 32) × (value < 2 ^ width) × (at + width ≤ 8 * length (now s)) ⌝ }
     ensures { λ r. ⌜ Put (now (s .entry)) (now (s .exit)) at width value ⌝ }
