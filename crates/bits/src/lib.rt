@@ -1,7 +1,7 @@
 // One field of 1 to 32 bits in lent bytes, most significant bit first, by whole bytes.
 ghost use mathlib.Core.Path.{_≡_};
 ghost use Prim.Native.Nat.{_+_, _*_, _/_, _%_, _^_, _≤_, _<_};
-ghost use lib.ListN.{length};
+ghost use lib.ListN.{length, replicate};
 ghost use Rattle.bits.specs.Field.{field, Put};
 ghost use Rattle.bits.specs.Word.{spliced, Stored};
 
@@ -112,5 +112,16 @@ pub fn put(s: &mut [u8], at: usize, width: usize, value: u32)
         put_among(s, at, width, value, 8);
     } else {
         put_among(s, at, width, value, (at % 8 + width + 7) / 8);
+    }
+}
+
+// Every byte becomes 0: what a file's fields are put into.
+pub fn clear(out: &mut [u8])
+    ensures { λ r. ⌜ now (out .exit) ≡ replicate (length (now (out .entry))) 0 ⌝ }
+{
+    let mut i = 0;
+    while i < out.len() {
+        out[i] = 0;
+        i += 1;
     }
 }

@@ -1,7 +1,7 @@
 // The plan file: its fields are put straight into lent bytes, the head first and the rides in any order.
 ghost use mathlib.Core.Path.{_≡_};
 ghost use Prim.Native.Nat.{_+_, _*_, _≤_, _<_};
-ghost use lib.ListN.{length, replicate};
+ghost use lib.ListN.{length};
 ghost use Rattle.plan_file.specs.Puts.{Puts};
 ghost use Rattle.plan_file.specs.PlanFile.{InWidth, queryOf, queryFields, headFields, rideFields, rideOf};
 use leg::Cents;
@@ -13,17 +13,6 @@ pub struct Query {
     pub end: u32,
     pub earliest: Minute,
     pub latest: Minute,
-}
-
-// Every byte is 0: what a file is put into.
-pub fn clear(out: &mut [u8])
-    ensures { λ r. ⌜ now (out .exit) ≡ replicate (length (now (out .entry))) 0 ⌝ }
-{
-    let mut i = 0;
-    while i < out.len() {
-        out[i] = 0;
-        i += 1;
-    }
 }
 
 // The query's four fields.

@@ -127,7 +127,7 @@ fn write_sheet(cells: &[u32], w: usize, places: u32, earliest: Minute, file: &mu
     requires { ⌜ Table (now cells) w places × (earliest .0 + w ≤ 2880) × (length (now file) ≡ sheetBytes (sheetIn (now cells) w (earliest .0) places)) ⌝ }
     ensures { λ r. ⌜ FileOf (sheetIn (now (cells .entry)) w (earliest .0) places) (now (file .exit)) ⌝ }
 {
-    plan_file::clear(file);
+    bits::clear(file);
     bits::put(file, 0, 8, 1);
     bits::put(file, 8, 7, places);
     put_places(cells, w, places, earliest, file);

@@ -192,7 +192,7 @@ pub fn write_plan(
 {
     let end = query.end;
     let here = cell(cells, query, end, arrival);
-    plan_file::clear(file);
+    bits::clear(file);
     plan_file::put_head(file, 1, query, Cents(here / 64), here % 64);
     arrival_to_leg(net, chart, cells, file, size, query, end, arrival);
 }
@@ -202,6 +202,6 @@ pub fn write_none(file: &mut [u8], query: Query)
     requires { ⌜ InWidth query × (length (now file) ≡ 12) ⌝ }
     ensures { λ r. ⌜ FileOf (noneFile (queryOf query)) (now (file .exit)) ⌝ }
 {
-    plan_file::clear(file);
+    bits::clear(file);
     plan_file::put_head(file, 0, query, Cents(0), 0);
 }

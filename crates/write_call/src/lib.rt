@@ -1,7 +1,7 @@
 // The write call of document 01: a list of numbers is judged as a network, and its file put into lent bytes.
 ghost use mathlib.Core.Path.{_≡_};
 ghost use Prim.Native.Nat.{ℕ, _+_, _*_, _≤_};
-ghost use lib.ListN.{length, replicate};
+ghost use lib.ListN.{length};
 ghost use Rattle.network.specs.Network.{edition1};
 ghost use Rattle.network.specs.Fields.{headFields, bandsFields, legFields};
 ghost use Rattle.write_call.specs.Steps.{Adds, Small, LegsFit, LegsPut, Accepted, FileOf};
@@ -12,17 +12,6 @@ use leg::Leg;
 use network::NetworkFound;
 use network::Size;
 use source::Origin;
-
-// Every byte becomes zero.
-fn clear(out: &mut [u8])
-    ensures { λ r. ⌜ now (out .exit) ≡ replicate (length (now (out .entry))) 0 ⌝ }
-{
-    let mut i = 0;
-    while i < out.len() {
-        out[i] = 0;
-        i += 1;
-    }
-}
 
 // The head of a leg, at bit `at`: from 6, to 6, driving time 12, bands 4.
 fn put_head(out: &mut [u8], at: usize, leg: Leg)
@@ -86,7 +75,7 @@ fn put_file(list: &[u32], nothing: &[u8], out: &mut [u8], size: Size)
 {
     let places = size.places;
     let legs = size.legs;
-    clear(out);
+    bits::clear(out);
     bits::put(out, 0, 25, 0x2_0000 + places * 0x400 + legs as u32);
     put_legs(list, nothing, out, places, legs);
 }

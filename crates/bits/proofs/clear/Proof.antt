@@ -1,4 +1,4 @@
--- `write_call::clear`: the bytes passed are zero, and the others are as they were.
+-- `bits::clear`: the bytes passed are zero, and the others are as they were.
 use Prim.Native.Nat.{ℕ, _-_, _≤_}
 use native.Mathlib.Omega.{arith}
 use mathlib.Core.Path.{_≡_, ap, _∙_}
@@ -6,8 +6,8 @@ use mathlib.Core.List.{List, _++_, append-nil}
 use borrow.Author.Fill.{fill-none, fill-more}
 use lib.ListN.{length, drop, replicate, length-set}
 use lib.Seq.{drop-length}
-use Rattle.write_call.proofs.clear.Statement.{statement}
-use Rattle.write_call.proofs.clear.Tie as tie
+use Rattle.bits.proofs.clear.Statement.{statement}
+use Rattle.bits.proofs.clear.Tie as tie
 
 abbrev Inv-loop : tie.InvT-loop
 Inv-loop out₀ i₀ out i = (i ≤ length out) × (length out ≡ length out₀) × (out ≡ replicate i 0 ++ drop i out₀)
