@@ -10,6 +10,7 @@ pub record Entry : Type 0 where
   pub width : ℕ
   pub value : ℕ
 
+-- a field of so many bits that holds this number
 abbrev pub item : ℕ → ℕ → Entry
 item w v = record { width = w; value = v }
 

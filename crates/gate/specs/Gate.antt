@@ -34,6 +34,7 @@ pub record Costs (N : Network) (f : PlanFile) : Type 0 where
   pub feasible : Feasible N (f .query) (f .rides)
   pub sum : cost N (f .rides) ≡ f .price
 
+-- what a plan file says holds: "none" claims no plan
 abbrev pub Holds : Network → PlanFile → Type 0
 Holds N f = f .verdict ≡ 1 → Costs N f
 
@@ -41,6 +42,7 @@ Holds N f = f .verdict ≡ 1 → Costs N f
 abbrev pub statedCost : ℕ → Cents → Option Cents
 statedCost verdict price = cond (eqb verdict 0) none (some price)
 
+-- the cost that this file states
 abbrev pub stated : PlanFile → Option Cents
 stated f = statedCost (f .verdict) (f .price)
 

@@ -30,9 +30,11 @@ abbrev pub netOf : Found NetworkFile → NetworkFile
 netOf (refused why) = record { places = 0; legs = [] }
 netOf (found net end) = net
 
+-- the network that these bytes stand for
 abbrev pub netAt : List ℕ → NetworkFile
 netAt s = netOf (ofFile s)
 
+-- the theory's network of these bytes
 abbrev pub theoryAt : List ℕ → Network
 theoryAt s = theory (netAt s)
 
@@ -84,5 +86,6 @@ pub record Ruled (net s index : List ℕ) (legs : ℕ) (q : Query) : Type 0 wher
   pub a : value (placeAt s (getD index (q .start) 0)) (q .earliest) ≡ some 0
   pub b : (k : ℕ) → k < legs → RuleOf net s index (q .latest) k
 
+-- the window of a query, for the sheet
 abbrev pub windowOf : QueryStruct → Query
 windowOf a = window (a .earliest .0) (a .latest .0)

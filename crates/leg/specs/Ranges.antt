@@ -18,12 +18,15 @@ lastMinute = 2879
 abbrev pub mostCents : ℕ
 mostCents = 65535
 
+-- the code's minute n
 abbrev pub minute : ℕ → Minute
 minute n = record { 0 = n }
 
+-- the code's n cents
 abbrev pub cents : ℕ → Cents
 cents n = record { 0 = n }
 
+-- a minute that passed its test, or not
 abbrev pub pickMinute : Bool → ℕ → MinuteFound
 pickMinute true n = MinuteFound.Within (minute n)
 pickMinute false n = MinuteFound.Beyond
@@ -32,6 +35,7 @@ pickMinute false n = MinuteFound.Beyond
 abbrev pub minuteOf : ℕ → MinuteFound
 minuteOf n = pickMinute (leb n lastMinute) n
 
+-- a toll that passed its test, or not
 abbrev pub pickCents : Bool → ℕ → CentsFound
 pickCents true n = CentsFound.Within (cents n)
 pickCents false n = CentsFound.Beyond
@@ -40,6 +44,7 @@ pickCents false n = CentsFound.Beyond
 abbrev pub centsOf : ℕ → CentsFound
 centsOf n = pickCents (leb n mostCents) n
 
+-- a band that starts at this minute and has this toll
 abbrev pub bandOf : ℕ → ℕ → Band
 bandOf start toll = record { start = minute start; toll = cents toll }
 
@@ -47,5 +52,6 @@ bandOf start toll = record { start = minute start; toll = cents toll }
 abbrev pub noBand : Band
 noBand = bandOf 0 0
 
+-- so many places with no band
 abbrev pub noBands : ℕ → List Band
 noBands n = replicate n noBand

@@ -8,6 +8,7 @@ use Rattle.leg.specs.declared.Band.{Band}
 use Rattle.leg.specs.declared.Leg.{Leg}
 use Rattle.leg.specs.Ranges.{noBand}
 
+-- a if the test holds, b if not
 unfoldable pub either : Bool → ℕ → ℕ → ℕ
 either true a b = a
 either false a b = b

@@ -13,6 +13,7 @@ abbrev pub _bits:_ : ℕ → ℕ → Entry
 _bits:_ width value = record { width = width; value = value }
 
 infixl 20 _bits:_
+-- one band: start, toll
 abbrev pub bandFields : Band → List Entry
 bandFields b = (12 bits: b .start .0) ∷ (16 bits: b .toll .0) ∷ []
 
@@ -21,19 +22,24 @@ unfoldable pub bandsFields : ℕ → List Band → List Entry
 bandsFields zero bands = []
 bandsFields (suc k) bands = bandsFields k bands ++ bandFields (getD bands k noBand)
 
+-- the head of a leg: from, to, driving time, number of bands
 abbrev pub headFields : Form → Leg → ℕ → List Entry
 headFields form leg count = (6 bits: leg .from) ∷ (6 bits: leg .to) ∷ (12 bits: leg .time .0) ∷ (form .countWidth bits: count) ∷ []
 
+-- one leg: its head, then its bands
 abbrev pub legFields : Form → Leg → List Entry
 legFields form leg = headFields form leg (leg .count) ++ bandsFields (leg .count) (leg .bands)
 
+-- the legs, one after another
 unfoldable pub legsFields : Form → List Leg → List Entry
 legsFields form [] = []
 legsFields form (l ∷ ls) = legFields form l ++ legsFields form ls
 
+-- the head of a network: edition, places, number of legs
 abbrev pub topFields : ℕ → ℕ → List Entry
 topFields places count = (8 bits: 1) ∷ (7 bits: places) ∷ (10 bits: count) ∷ []
 
+-- the whole network
 abbrev pub fieldsOf : Form → Network → List Entry
 fieldsOf form net = topFields (net .places) (length (net .legs)) ++ legsFields form (net .legs)
 
@@ -41,5 +47,6 @@ fieldsOf form net = topFields (net .places) (length (net .legs)) ++ legsFields f
 abbrev pub values : List Entry → List ℕ
 values es = map (λ (e : Entry). e .value) es
 
+-- the same as numbers alone
 abbrev pub numbersOf : Form → Network → List ℕ
 numbersOf form net = values (fieldsOf form net)

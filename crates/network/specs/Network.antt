@@ -19,9 +19,11 @@ pub record Form : Type 0 where
   pub countWidth : ℕ
   pub mostBands : ℕ
 
+-- edition 1: a count of 4 bits, 1 to 8 bands
 abbrev pub edition1 : Form
 edition1 = record { countWidth = 4; mostBands = 8 }
 
+-- a network: how many places, and its legs in file order
 pub record Network : Type 0 where
   pub places : ℕ
   pub legs : List Leg
@@ -40,11 +42,12 @@ band least = do
   check (leb toll mostCents) Range
   give (bandOf start toll)
 
--- a leg that has no band yet, and a leg with one band more
+-- a leg that has no band yet
 abbrev pub bare : Form → Head → Leg
 bare form head =
     record { from = head .from; to = head .to; time = head .time; bands = noBands (form .mostBands); count = 0 }
 
+-- a leg with one band more
 abbrev pub withBand : Leg → Band → Leg
 withBand leg b =
     record { from = leg .from; to = leg .to; time = leg .time; bands = set (leg .bands) (leg .count) b; count = leg .count + 1 }

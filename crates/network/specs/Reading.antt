@@ -15,6 +15,7 @@ pub data Found (A : Type 0) : Type 0 where
 abbrev pub Reading : Type 0 → Type 0
 Reading A = Source → ℕ → Found A
 
+-- what was found is handed on; a refusal stays
 abbrev pub next : {A B : Type 0} → Found A → (A → ℕ → Found B) → Found B
 next (refused why) k = refused why
 next (found a at) k = k a at
@@ -24,6 +25,7 @@ infixl 1 _>>=_ _>>_
 abbrev pub _>>=_ : {A B : Type 0} → Reading A → (A → Reading B) → Reading B
 _>>=_ m k = λ src at. next (m src at) (λ a at′. k a src at′)
 
+-- the same, where what was found is not wanted
 abbrev pub _>>_ : {A B : Type 0} → Reading A → Reading B → Reading B
 _>>_ m k = m >>= λ _. k
 
@@ -31,6 +33,7 @@ _>>_ m k = m >>= λ _. k
 abbrev pub give : {A : Type 0} → A → Reading A
 give a = λ src at. found a at
 
+-- one of two by a test
 abbrev pub pick : {A : Type 0} → Bool → A → A → A
 pick true a b = a
 pick false a b = b

@@ -23,6 +23,7 @@ legs =
     ∷ legOf 0 2 40 (bandOf 0 800 ∷ [])
     ∷ []
 
+-- document 01's trial network
 abbrev pub trial : Network
 trial = networkOf 3 legs
 
@@ -36,9 +37,11 @@ pub record Row : Type 0 where
   pub query : Query
   pub says : Says
 
+-- a query, as a row of the table has it
 abbrev pub ask : ℕ → ℕ → Minute → Minute → Query
 ask s e t u = record { start = s; end = e; earliest = t; latest = u }
 
+-- leg l left at minute d
 abbrev pub drive : ℕ → Minute → Ride
 drive l d = record { leg = l; leave = d }
 
@@ -77,6 +80,7 @@ step t x = record { minute = t; price = x }
 abbrev pub sheetQuery : Query
 sheetQuery = ask 0 2 0 120
 
+-- the sheet for 0, 2, 0, 120
 abbrev pub sheet : List (List Step)
 sheet =
     (step 0 0 ∷ [])

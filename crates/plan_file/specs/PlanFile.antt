@@ -26,6 +26,7 @@ pub record InWidth (a : Asked) : Type 0 where
   pub earliest : a .earliest .0 < 4096
   pub latest : a .latest .0 < 4096
 
+-- leg l left at minute d
 abbrev pub rideOf : ℕ → Minute → Ride
 rideOf l d = record { leg = l; leave = d }
 
@@ -46,6 +47,7 @@ unfoldable pub ridesFields : List Ride → List Entry
 ridesFields [] = []
 ridesFields (r ∷ rs) = ridesFields rs ++ rideFields r
 
+-- the whole file: the head, then the rides
 abbrev pub planFields : PlanFile → List Entry
 planFields f = headFields (f .verdict) (f .query) (f .price) (length (f .rides)) ++ ridesFields (f .rides)
 

@@ -7,6 +7,7 @@ use lib.ListN.{length}
 use Rattle.bits.specs.Field.{field}
 use Rattle.bits.specs.Packed.{bytesFor}
 
+-- both tests hold
 abbrev pub both : Bool → Bool → Bool
 both true b = b
 both false b = false

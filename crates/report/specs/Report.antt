@@ -19,6 +19,7 @@ use Rattle.text.specs.Text.{item, line}
 abbrev pub answerWord : List ℕ
 answerWord = 97 ∷ 110 ∷ 115 ∷ 119 ∷ 101 ∷ 114 ∷ 32 ∷ []
 
+-- the line that has the answer
 abbrev pub answerText : ℕ → List ℕ
 answerText n = line answerWord n
 
@@ -26,6 +27,7 @@ answerText n = line answerWord n
 abbrev pub costWord : List ℕ
 costWord = 99 ∷ 111 ∷ 115 ∷ 116 ∷ 32 ∷ []
 
+-- the line that has the cost
 abbrev pub costText : ℕ → List ℕ
 costText n = line costWord n
 
@@ -33,15 +35,19 @@ costText n = line costWord n
 abbrev pub arriveWord : List ℕ
 arriveWord = 97 ∷ 114 ∷ 114 ∷ 105 ∷ 118 ∷ 101 ∷ 32 ∷ []
 
+-- the line that has the arrival
 abbrev pub arriveText : ℕ → List ℕ
 arriveText n = line arriveWord n
 
+-- `leg `
 abbrev pub legWord : List ℕ
 legWord = 108 ∷ 101 ∷ 103 ∷ 32 ∷ []
 
+-- ` leave `
 abbrev pub leaveWord : List ℕ
 leaveWord = 32 ∷ 108 ∷ 101 ∷ 97 ∷ 118 ∷ 101 ∷ 32 ∷ []
 
+-- ` wait `
 abbrev pub waitWord : List ℕ
 waitWord = 32 ∷ 119 ∷ 97 ∷ 105 ∷ 116 ∷ 32 ∷ []
 

@@ -22,6 +22,7 @@ use Rattle.rule_b.specs.declared.Tolls.{Tolls}
 abbrev pub never : Minute
 never = 4096
 
+-- the minute of the first of some steps
 abbrev pub firstOf : List Step → Minute
 firstOf [] = never
 firstOf (x ∷ xs) = x .minute
@@ -79,6 +80,7 @@ abbrev pub Covers : Option Cents → Option Cents → Cents → Type 0
 Covers none v toll = Unit {0}
 Covers (some x) v toll = AtMost v (x + toll)
 
+-- one or the other
 abbrev pub Or : Type 0 → Type 0 → Type 0
 Or P Q = P ⊎ Q
 

@@ -8,10 +8,11 @@ use Rattle.leg.specs.declared.Band.{Band}
 use Rattle.leg.specs.declared.Leg.{Leg}
 use Rattle.leg.specs.Ranges.{minute, bandOf}
 
--- the band at a bit, and so many bands from a bit on
+-- the band at a bit
 abbrev pub bandAt : List ℕ → ℕ → Band
 bandAt s at = bandOf (field s at 12) (field s (at + 12) 16)
 
+-- so many bands from a bit on
 unfoldable pub bandsAt : List ℕ → ℕ → ℕ → List Band
 bandsAt s at zero = []
 bandsAt s at (suc k) = bandAt s at ∷ bandsAt s (at + 28) k

@@ -11,6 +11,7 @@ use Rattle.plan.specs.Sheet.{Step}
 abbrev pub noCost : Cents
 noCost = 67108863
 
+-- a step at this minute to this cost
 abbrev pub stepAt : Minute → Cents → Step
 stepAt t x = record { minute = t; price = x }
 

@@ -9,6 +9,7 @@ use Rattle.plan.specs.Sheet.{Step}
 abbrev pub stepFields : Step → List Entry
 stepFields s = item 12 (s .minute) ∷ item 32 (s .price) ∷ []
 
+-- the steps, one after another
 unfoldable pub stepsFields : List Step → List Entry
 stepsFields [] = []
 stepsFields (s ∷ ss) = stepFields s ++ stepsFields ss
@@ -17,6 +18,7 @@ stepsFields (s ∷ ss) = stepFields s ++ stepsFields ss
 abbrev pub placeFields : List Step → List Entry
 placeFields ss = item 12 (length ss) ∷ stepsFields ss
 
+-- the places, one after another
 unfoldable pub placesFields : List (List Step) → List Entry
 placesFields [] = []
 placesFields (ss ∷ rest) = placeFields ss ++ placesFields rest

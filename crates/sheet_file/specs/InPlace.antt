@@ -9,26 +9,29 @@ use Rattle.network.specs.Reading.{Found, refused, found}
 use Rattle.plan.specs.Sheet.{Step}
 use Rattle.sheet_file.specs.declared.SheetFound.{SheetFound}
 
--- the step at a bit, and so many steps from a bit on
+-- the step at a bit
 abbrev pub stepAt : List ℕ → ℕ → Step
 stepAt s at = record { minute = field s at 12; price = field s (at + 12) 32 }
 
+-- so many steps from a bit on
 unfoldable pub stepsAt : List ℕ → ℕ → ℕ → List Step
 stepsAt s at zero = []
 stepsAt s at (suc k) = stepAt s at ∷ stepsAt s (at + 44) k
 
--- how many steps the place has whose count stands at a bit, and these steps
+-- how many steps the place has whose count stands at a bit
 abbrev pub countAt : List ℕ → ℕ → ℕ
 countAt s at = field s at 12
 
+-- the steps of the place whose count stands at a bit
 abbrev pub placeAt : List ℕ → ℕ → List Step
 placeAt s at = stepsAt s (at + 12) (countAt s at)
 
--- a test of a reading: it found this, up to here, or it found nothing
+-- a reading found nothing
 abbrev pub Nothing : {A : Type 0} → Found A → Type 0
 Nothing (refused why) = Unit {0}
 Nothing (found a at) = ⊥
 
+-- a test that says yes found this, up to here; one that says no found nothing
 abbrev pub Tested : {A : Type 0} → Bool → Found A → A → ℕ → Type 0
 Tested true x a at = x ≡ found a at
 Tested false x a at = Nothing x

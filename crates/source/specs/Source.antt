@@ -56,13 +56,15 @@ Fetched src at (w ∷ ws) [] k have end = ⊥
 Fetched src at (w ∷ ws) (v ∷ vs) k have end =
     (src .has w at ≡ ltb k have) × (src .value w at ≡ v) × Fetched src (src .after w at) ws vs (suc k) have end
 
--- the widths of document 01's table: the head of a network, the head of a leg, a band
+-- the widths of document 01's table: the head of a network: edition, places, number of legs
 abbrev pub topWidths : List ℕ
 topWidths = 8 ∷ 7 ∷ 10 ∷ []
 
+-- a leg's head: from, to, driving time, number of bands
 abbrev pub headWidths : List ℕ
 headWidths = 6 ∷ 6 ∷ 12 ∷ 4 ∷ []
 
+-- a band: start, toll
 abbrev pub bandWidths : List ℕ
 bandWidths = 12 ∷ 16 ∷ []
 
@@ -81,9 +83,10 @@ pub record Listed (l : List ℕ) (at want : ℕ) (r : Fields) : Type 0 where
   pub four : (ltb (at + 3) (length l) ≡ ltb 3 (r .have)) × (getD l (at + 3) 0 ≡ r .d)
   pub place : r .after ≡ at + want
 
--- a leg's head, and a band, in a file from a bit on
+-- a leg's head in a file from a bit on
 abbrev pub HeadFields : List ℕ → ℕ → Fields → Type 0
 HeadFields s at r = Fetched (fileOf s) at headWidths (r .a ∷ r .b ∷ r .c ∷ r .d ∷ []) 0 (r .have) (r .after)
 
+-- a band in a file from a bit on
 abbrev pub BandFields : List ℕ → ℕ → Fields → Type 0
 BandFields s at r = Fetched (fileOf s) at bandWidths (r .a ∷ r .b ∷ []) 0 (r .have) (r .after)

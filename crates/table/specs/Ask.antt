@@ -8,6 +8,7 @@ use Rattle.network.specs.Network.{Network, ofFile}
 use Rattle.network.specs.declared.Size.{Size}
 use Rattle.table.specs.declared.Ask.{Ask}
 
+-- the network that was found
 abbrev pub netOf : Found Network → Network
 netOf (refused why) = record { places = 0; legs = [] }
 netOf (found net end) = net
@@ -24,6 +25,7 @@ planned net = networkOf (net .places) (net .legs)
 abbrev pub queryTo : Ask → ℕ → Plan.Query
 queryTo ask end = record { start = ask .start; end = end; earliest = ask .earliest; latest = ask .latest }
 
+-- the code's question as the theory's query
 abbrev pub query : Ask → Plan.Query
 query ask = queryTo ask (ask .start)
 

@@ -28,6 +28,7 @@ pub record Kept (N : Network) (q : Query) (cells low : List ℕ) (Due : ℕ → 
   pub rides : (l j : ℕ) → l < N .legs → j < at low (N .source l) → j + N .time l < width q → (Due l j → ⊥)
       → cell cells (width q) (N .target l) (j + N .time l) ≤ cell cells (width q) (N .source l) j + weight N l (q .earliest + j)
 
+-- no ride is due
 abbrev pub Never : ℕ → ℕ → Type 0
 Never l j = ⊥
 

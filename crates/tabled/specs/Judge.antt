@@ -32,10 +32,12 @@ pub data Judged : Type 0 where
   refuse : Refusal → Judged
   serve : Network → Judged
 
+-- served with this network, or refused
 abbrev pub with-network : Judgement → Network → Judged
 with-network Serve N = serve N
 with-network (Refuse why) N = refuse why
 
+-- the network first, then 6, 7 and 8
 abbrev pub judged : Found FileNetwork → Query → ℕ → Judged
 judged (refused why) q cells = refuse why
 judged (found n at) q cells = with-network (judgement (n .places) q cells) (networkOf (n .places) (n .legs))

@@ -7,6 +7,7 @@ use Rattle.answer.specs.declared.PlanAnswer.{PlanAnswer}
 use Rattle.answer.specs.Plans.{planNumber, planLength}
 use Rattle.terminal.specs.declared.Reply.{Reply}
 
+-- number and length of an answer that keeps the promise
 pub record Replies (Promise : Answer → Type 0) (reply : Reply) : Type 0 where
   pub answer : Answer
   pub promise : Promise answer

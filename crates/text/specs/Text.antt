@@ -15,10 +15,11 @@ decimal (suc k) n = cond (ltb n 10) ((48 + n) ∷ []) (decimal k (n / 10) ++ ((4
 abbrev pub decimalOf : ℕ → List ℕ
 decimalOf n = decimal 10 n
 
--- a word and a number, and the same with a newline behind it
+-- a word and a number
 unfoldable pub item : List ℕ → ℕ → List ℕ
 item name n = name ++ decimalOf n
 
+-- a word, a number and a newline
 unfoldable pub line : List ℕ → ℕ → List ℕ
 line name n = item name n ++ (10 ∷ [])
 

@@ -32,6 +32,7 @@ abbrev pub theNet : Found FileNetwork → Network
 theNet (refused why) = networkOf 0 []
 theNet (found n at) = networkOf (n .places) (n .legs)
 
+-- the theory's network of these bytes
 abbrev pub netOf : List ℕ → Network
 netOf s = theNet (ofFile s)
 
