@@ -1,0 +1,49 @@
+-- A card: sixteen slots of minutes and cents, in two lists from the same index on.
+use Prim.Native.Nat.{ℕ, _+_, _-_, _*_, _≤_, _<_}
+use mathlib.Core.Path.{_≡_}
+use mathlib.Core.Bool.{true, false}
+use mathlib.Core.Logic.{_⊎_}
+use mathlib.Core.List.{List}
+use lib.ListN.{length, getD}
+use Rattle.bits.specs.Field.{field}
+use Rattle.card.specs.declared.Shown.{Shown}
+
+-- slot k of the card from index `at` on
+abbrev pub slot : List ℕ → ℕ → ℕ → ℕ
+slot xs at k = getD xs (at + k) 0
+
+-- a minute that never comes
+abbrev pub never : ℕ
+never = 4096
+
+-- no slot is taken
+abbrev pub Blank : List ℕ → ℕ → Type 0
+Blank minutes at = (k : ℕ) → k < 16 → slot minutes at k ≡ never
+
+-- the first `count` slots hold the pairs that stand in a file from a bit on, and the others never begin
+pub record Carded (s : List ℕ) (bit width count : ℕ) (minutes prices : List ℕ) (at : ℕ) : Type 0 where
+  pub minute-is : (k : ℕ) → k < count → slot minutes at k ≡ field s (bit + k * (12 + width)) 12
+  pub price-is : (k : ℕ) → k < count → slot prices at k ≡ field s (bit + k * (12 + width) + 12) width
+  pub rest-is : (k : ℕ) → count ≤ k → k < 16 → slot minutes at k ≡ never
+
+-- nothing but this card was written
+pub record Kept (old new : List ℕ) (at : ℕ) : Type 0 where
+  pub size : length new ≡ length old
+  pub same : (n : ℕ) → (n < at) ⊎ (at + 16 ≤ n) → getD new n 0 ≡ getD old n 0
+
+-- no slot begins before the one in front of it
+abbrev pub Rising : List ℕ → ℕ → Type 0
+Rising minutes at = (k : ℕ) → k + 1 < 16 → slot minutes at k ≤ slot minutes at (k + 1)
+
+-- just the first n slots have begun at minute t
+pub record Begun (minutes : List ℕ) (at t n : ℕ) : Type 0 where
+  pub few : n ≤ 16
+  pub before : (k : ℕ) → k < n → slot minutes at k ≤ t
+  pub after : (k : ℕ) → n ≤ k → k < 16 → t < slot minutes at k
+
+-- what a card shows: the cents of the last slot that has begun at minute t
+pub record Shows (minutes prices : List ℕ) (at t : ℕ) (r : Shown) : Type 0 where
+  pub slots : ℕ
+  pub begun : Begun minutes at t slots
+  pub nothing : slots ≡ 0 → (r .has ≡ false) × (r .price .0 ≡ 0)
+  pub last : (k : ℕ) → slots ≡ k + 1 → (r .has ≡ true) × (r .price .0 ≡ slot prices at k)
