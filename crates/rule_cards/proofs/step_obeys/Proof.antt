@@ -1,0 +1,70 @@
+-- `rule_cards::step_obeys`: step k is on its card, and the toll is what the bands show.
+use borrow.Author.Needs.{needs}
+use Prim.Native.Nat.{_+_, _≤_, _<_}
+use native.Mathlib.Omega.{arith}
+use mathlib.Core.Path.{_≡_, refl}
+use mathlib.Core.Option.{some}
+use Rattle.card.specs.Card.{slot}
+use Rattle.rule_cards.proofs.Departures.{rule-tested, rule-late}
+use Rattle.rule_cards.proofs.step_obeys.Statement.{statement}
+use Rattle.rule_cards.proofs.step_obeys.Tie as tie
+
+returns : tie.Need-returns
+returns c i j leg steps bands b low =
+    let a = c .before .before .before .before .before .before .before .before .args in
+    rule-late (a .latest .0) leg i j (slot (a .minutes .now) (a .from) (a .k)) (a .time .0) (b .time-is) (c .if1 .taken)
+
+returns-2 : tie.Need-returns-2
+returns-2 c i j leg steps bands b low =
+    let s = c .before .before .before .before .before .before .before .before .before .before .before in
+    let a = s .args in
+    let d = slot (a .minutes .now) (a .from) (a .k) in
+    let toll = c .before .look in
+    let soon : d + a .time .0 ≤ a .latest .0 = omega (arith, c .before .before .before .if1 .left) in
+    rule-tested leg i j d (d + a .time .0) (a .time .0) (some (slot (a .prices .now) (a .from) (a .k))) (toll .result .price .0) (b .time-is) refl (b .step-is (a .k) low)
+    (b .leg-held d (toll .result) (omega (arith, soon, s .pre .5)) (toll .ensures)) (a .latest .0) (c .departure-obeys .result) soon (c .departure-obeys .ensures j (b .j-held))
+
+add-departure : tie.Need-add-departure
+add-departure c = omega (arith, c .before .before .before .before .pre .0 .near, c .before .before .before .before .pre .3)
+
+shared-slice-read-departure : tie.Need-shared-slice-read-departure
+shared-slice-read-departure c = omega (arith, c .before .before .before .before .before .pre .0 .room, c .before .before .before .before .before .pre .3)
+
+add-arrival : tie.Need-add-arrival
+add-arrival c = omega (arith, c .before .before .before .before .before .before .pre .0 .within (c .before .before .before .before .before .before .args .k) (c .before .before .before .before .before .before .pre .3), c .before .before .before .before .before .before .pre .4)
+
+add-price : tie.Need-add-price
+add-price c = omega (arith, c .before .before .before .before .before .before .before .before .pre .0 .near, c .before .before .before .before .before .before .before .before .pre .3)
+
+shared-slice-read-price : tie.Need-shared-slice-read-price
+shared-slice-read-price c = omega (arith, c .before .before .before .before .before .before .before .before .before .pre .0 .price-room, c .before .before .before .before .before .before .before .before .before .pre .3)
+
+look-requires : tie.Need-look-requires
+look-requires c κs =
+    let card = c .before .before .before .before .before .before .before .before .before .pre .2 in
+    (card .near, card .room, card .price-room, card .rises)
+
+departure-obeys-requires : tie.Need-departure-obeys-requires
+departure-obeys-requires c κs = (c .before .before .before .before .before .before .before .before .before .before .pre .1, omega (arith, c .before .before .if1 .left, c .before .before .before .before .before .before .before .before .before .before .pre .5))
+
+mul-departure : tie.Need-mul-departure
+mul-departure c = search needs
+
+mul-price : tie.Need-mul-price
+mul-price c = search needs
+
+pub step-obeys-spec : {M : Type 1} → statement M
+step-obeys-spec =
+    tie.close
+    (tie.spec
+    add-departure
+    mul-departure
+    shared-slice-read-departure
+    add-arrival
+    returns
+    add-price
+    mul-price
+    shared-slice-read-price
+    look-requires
+    departure-obeys-requires
+    returns-2)

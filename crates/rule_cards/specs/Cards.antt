@@ -1,0 +1,65 @@
+-- Cards that hold the steps of two places and the bands of the leg between them.
+use Prim.Native.Nat.{ℕ, _+_, _≤_, _<_}
+use mathlib.Core.Path.{_≡_}
+use mathlib.Core.Bool.{Bool}
+use mathlib.Core.Option.{Option, some}
+use mathlib.Core.List.{List}
+use lib.ListN.{length}
+use Rattle.leg.specs.declared.Leg.{Leg}
+use Rattle.leg.specs.Toll.{tollAt}
+use Rattle.plan.specs.Network.{Minute, Cents}
+use Rattle.plan.specs.Sheet.{Step, value}
+use Rattle.sheet_file.specs.InPlace.{countAt}
+use Rattle.rule_b.specs.Rule.{Is, RuleAt}
+use Rattle.rule_b.specs.Cursor.{shown, Covers}
+use Rattle.card.specs.declared.Shown.{Shown}
+use Rattle.card.specs.Card.{slot, never, Rising, Carded, Shows}
+
+-- a card can be looked at: it lies in both lists, its slots rise, and none is later than never
+pub record Tidy (minutes prices : List ℕ) (at : ℕ) : Type 0 where
+  pub near : at ≤ 100000
+  pub room : at + 16 ≤ length minutes
+  pub price-room : at + 16 ≤ length prices
+  pub rises : Rising minutes at
+  pub within : (k : ℕ) → k < 16 → slot minutes at k ≤ never
+
+-- what the card shows is the value that these steps have
+abbrev pub HoldsSteps : List ℕ → List ℕ → ℕ → List Step → Type 0
+HoldsSteps minutes prices at ss = (t : Minute) (r : Shown) → t < never → Shows minutes prices at t r → value ss t ≡ shown (r .has) (r .price .0)
+
+-- what the card shows is the toll that this leg has
+abbrev pub HoldsTolls : List ℕ → List ℕ → ℕ → Leg → Type 0
+HoldsTolls starts tolls at leg = (t : Minute) (r : Shown) → t < never → Shows starts tolls at t r → tollAt leg t ≡ r .price .0
+
+-- the cards of both places and of the leg's bands
+pub record Between (minutes prices : List ℕ) (from to : ℕ) (starts tolls : List ℕ) (steps bands time : ℕ) (i j : List Step) (leg : Leg) : Type 0 where
+  pub i-held : HoldsSteps minutes prices from i
+  pub j-held : HoldsSteps minutes prices to j
+  pub leg-held : HoldsTolls starts tolls 0 leg
+  pub time-is : leg .time .0 ≡ time
+  pub step-is : (k : ℕ) → k < steps → value i (slot minutes from k) ≡ some (slot prices from k)
+  pub band-is : (k : ℕ) → k < bands → tollAt leg (slot starts 0 k) ≡ slot tolls 0 k
+
+-- rule (b) at a departure, if it arrives by latest
+abbrev pub RuleIf : Minute → Leg → List Step → List Step → Minute → Type 0
+RuleIf latest leg i j d = d + leg .time .0 ≤ latest → RuleAt leg i j d
+
+-- what a test says of one departure
+abbrev pub DepartureTested : List ℕ → List ℕ → ℕ → Option Cents → Cents → Minute → Bool → Type 0
+DepartureTested minutes prices to v toll arrival r = (j : List Step) → HoldsSteps minutes prices to j → Is r (Covers v (value j arrival) toll)
+
+-- what a test says of step k
+abbrev pub StepTested : List ℕ → List ℕ → ℕ → ℕ → List ℕ → List ℕ → ℕ → Minute → ℕ → Bool → Type 0
+StepTested minutes prices from to starts tolls time latest k r =
+    (i j : List Step) (leg : Leg) (steps bands : ℕ) → Between minutes prices from to starts tolls steps bands time i j leg
+    → k < steps → Is r (RuleIf latest leg i j (slot minutes from k))
+
+-- what a test says of band k
+abbrev pub BandTested : List ℕ → List ℕ → ℕ → ℕ → List ℕ → List ℕ → ℕ → Minute → ℕ → Bool → Type 0
+BandTested minutes prices from to starts tolls time latest k r =
+    (i j : List Step) (leg : Leg) (steps bands : ℕ) → Between minutes prices from to starts tolls steps bands time i j leg
+    → k < bands → Is r (RuleIf latest leg i j (slot starts 0 k))
+
+-- the steps of the place whose count stands at a bit are on the card, if they are few enough
+pub record Laid (s : List ℕ) (place : ℕ) (minutes prices : List ℕ) (at : ℕ) : Type 0 where
+  pub held : countAt s place ≤ 16 → Carded s (place + 12) 32 (countAt s place) minutes prices at

@@ -1,0 +1,106 @@
+// Rule (b) for one leg by cards: where both its places have few steps, their values are found by counting; else the steps are walked.
+ghost use Prim.Native.Nat.{_+_, _≤_, _<_};
+ghost use Rattle.plan.specs.Sheet.{AtMost};
+ghost use Rattle.rule_b.specs.Rule.{Is};
+ghost use Rattle.rule_b.specs.Cursor.{shown};
+ghost use Rattle.rule_cards.specs.Cards.{Tidy, DepartureTested, StepTested, BandTested};
+use card::Shown;
+use leg::Cents;
+use leg::Minute;
+
+// Is there a value at the arrival, and does it cover a value at the departure and the toll?
+fn covered(from: Cents, toll: Cents, to: Shown) -> bool
+    ensures { λ r. ⌜ Is r (AtMost (shown (to .has) (to .price .0)) (from .0 + toll .0)) ⌝ }
+{
+    if !to.has {
+        return false;
+    }
+    to.price.0 as u64 <= from.0 as u64 + toll.0 as u64
+}
+
+// The rule at one departure, with the value there and the toll; the value at the arrival is on a card.
+fn departure_obeys(
+    minutes: &[u32],
+    prices: &[u32],
+    from: Shown,
+    toll: Cents,
+    to: usize,
+    arrival: Minute,
+) -> bool
+    requires { ⌜ Tidy (now minutes) (now prices) to × (arrival .0 < 4096) ⌝ }
+    ensures { λ r. ⌜ DepartureTested (now (minutes .entry)) (now (prices .entry)) to (shown (from .has) (from .price .0)) (toll .0) (arrival .0) r ⌝ }
+{
+    if !from.has {
+        return true;
+    }
+    let there = card::look(minutes, prices, to, arrival);
+    covered(from.price, toll, there)
+}
+
+// The rule at step k of the place that the leg leaves.
+fn step_obeys(
+    minutes: &[u32],
+    prices: &[u32],
+    from: usize,
+    to: usize,
+    starts: &[u32],
+    tolls: &[u32],
+    k: usize,
+    time: Minute,
+    latest: Minute,
+) -> bool
+    requires { ⌜ Tidy (now minutes) (now prices) from × Tidy (now minutes) (now prices) to × Tidy (now starts) (now tolls) 0 × (k < 16) × (time .0 ≤ 2879) × (latest .0 ≤ 2879) ⌝ }
+    ensures { λ r. ⌜ StepTested (now (minutes .entry)) (now (prices .entry)) from to (now (starts .entry)) (now (tolls .entry)) (time .0) (latest .0) k r ⌝ }
+{
+    let departure = minutes[from + k];
+    let arrival = departure + time.0;
+    if latest.0 < arrival {
+        return true;
+    }
+    let price = prices[from + k];
+    let here = Shown {
+        has: true,
+        price: Cents(price),
+    };
+    let toll = card::look(starts, tolls, 0, Minute(departure));
+    departure_obeys(
+        minutes,
+        prices,
+        here,
+        toll.price,
+        to,
+        Minute(arrival),
+    )
+}
+
+// The rule where band k starts.
+fn band_obeys(
+    minutes: &[u32],
+    prices: &[u32],
+    from: usize,
+    to: usize,
+    starts: &[u32],
+    tolls: &[u32],
+    k: usize,
+    time: Minute,
+    latest: Minute,
+) -> bool
+    requires { ⌜ Tidy (now minutes) (now prices) from × Tidy (now minutes) (now prices) to × Tidy (now starts) (now tolls) 0 × (k < 16) × (time .0 ≤ 2879) × (latest .0 ≤ 2879) ⌝ }
+    ensures { λ r. ⌜ BandTested (now (minutes .entry)) (now (prices .entry)) from to (now (starts .entry)) (now (tolls .entry)) (time .0) (latest .0) k r ⌝ }
+{
+    let departure = starts[k];
+    let arrival = departure + time.0;
+    if latest.0 < arrival {
+        return true;
+    }
+    let toll = tolls[k];
+    let here = card::look(minutes, prices, from, Minute(departure));
+    departure_obeys(
+        minutes,
+        prices,
+        here,
+        Cents(toll),
+        to,
+        Minute(arrival),
+    )
+}
