@@ -1,1 +1,2 @@
 pub mod Departures
+pub mod Enough
