@@ -1,2 +1,3 @@
 pub mod Departures
 pub mod Enough
+pub mod Held
