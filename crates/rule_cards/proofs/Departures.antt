@@ -9,6 +9,7 @@ use borrow.Author.Tests.{leb-true, leb-false}
 use lib.Dec.{leb}
 use lib.ListN.{getD}
 use native.Mathlib.Nat.{zero-add}
+use native.Mathlib.Decide.{decLt}
 use Rattle.leg.specs.declared.Leg.{Leg}
 use Rattle.leg.specs.Toll.{tollAt}
 use Rattle.plan.specs.Network.{Minute, Cents}
@@ -68,3 +69,11 @@ rule-late latest leg i j d time e late = λ h. absurd (omega arith)
 -- a card that begins its list
 pub slot-first : (xs : List ℕ) (k : ℕ) → slot xs 0 k ≡ getD xs k 0
 slot-first xs k = ap (λ (n : ℕ). getD xs n 0) (zero-add k)
+
+-- what holds of the first k and of k, holds of the first k + 1
+pub one-more : (P : ℕ → Type 0) (k : ℕ) → ((n : ℕ) → n < k → P n) → P k → (n : ℕ) → n < k + 1 → P n
+one-more P k old new n h = at (decLt n k)
+  where
+    at : Dec (n < k) → P n
+    at (yes low) = old n low
+    at (no high) = let same : n ≡ k = omega arith in subst P (sym same) new

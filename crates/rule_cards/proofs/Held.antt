@@ -162,11 +162,11 @@ module _ (q : Query) (s : List ℕ) (place : ℕ) (steps : Steps q (placeAt s pl
       let is = card .minute-is k h in
       let next : k + 1 ≡ suc k = omega arith in
       value-begun q s t (suc k) (place + 12) (countAt s place) (omega (arith, is, field-below s (place + 12 + k * 44) 12)) (omega arith) sorted
-      (λ m l. earlier m (omega arith) (decLt m k)) (λ l. omega (arith, is, subst (λ (n : ℕ). field s (place + 12 + k * 44) 12 < field s (place + 12 + n * 44) 12) next (place-ordered k (omega arith))))
+      (λ m l. earlier m (omega arith)) (λ l. omega (arith, is, subst (λ (n : ℕ). field s (place + 12 + k * 44) 12 < field s (place + 12 + n * 44) 12) next (place-ordered k (omega arith))))
       ∙ ap some (sym (card .price-is k h))
     where
-      earlier : (m : ℕ) → m ≤ k → Dec (m < k) → field s (place + 12 + m * 44) 12 ≤ slot minutes at k
-      earlier m l d =
+      earlier : (m : ℕ) → m ≤ k → field s (place + 12 + m * 44) 12 ≤ slot minutes at k
+      earlier m l =
           let e : m + (k - m) ≡ k = omega arith in
           let up = ordered-up s (place + 12) 32 (countAt s place) place-ordered m (k - m) (omega (arith, e)) in
           omega (arith, card .minute-is k h, subst (λ (n : ℕ). field s (place + 12 + m * 44) 12 ≤ field s (place + 12 + n * 44) 12) e up)
@@ -198,9 +198,6 @@ tolls-later bands t n (suc m) late =
 
 module _ (s : List ℕ) (at : ℕ) (order : InOrder (legAt s at)) (starts tolls : List ℕ)
     (card : Carded s (at + 28) 16 (legAt s at .count) starts tolls 0) where
-  bands : List Band
-  bands = legAt s at .bands
-
   start-is : (k : ℕ) → k < legAt s at .count → getD (legAt s at .bands) k noBand .start .0 ≡ slot starts 0 k
   start-is k h =
       let e : at + 28 + 28 * k ≡ at + 28 + k * (12 + 16) = omega arith in

@@ -60,6 +60,18 @@ BandTested minutes prices from to starts tolls time latest k r =
     (i j : List Step) (leg : Leg) (steps bands : ℕ) → Between minutes prices from to starts tolls steps bands time i j leg
     → k < bands → Is r (RuleIf latest leg i j (slot starts 0 k))
 
+-- what a test says of the first `steps` steps
+abbrev pub StepsTested : List ℕ → List ℕ → ℕ → ℕ → List ℕ → List ℕ → ℕ → Minute → ℕ → Bool → Type 0
+StepsTested minutes prices from to starts tolls time latest steps r =
+    (i j : List Step) (leg : Leg) (bands : ℕ) → Between minutes prices from to starts tolls steps bands time i j leg
+    → Is r ((k : ℕ) → k < steps → RuleIf latest leg i j (slot minutes from k))
+
+-- what a test says of the first `bands` bands
+abbrev pub BandsTested : List ℕ → List ℕ → ℕ → ℕ → List ℕ → List ℕ → ℕ → Minute → ℕ → Bool → Type 0
+BandsTested minutes prices from to starts tolls time latest bands r =
+    (i j : List Step) (leg : Leg) (steps : ℕ) → Between minutes prices from to starts tolls steps bands time i j leg
+    → Is r ((k : ℕ) → k < bands → RuleIf latest leg i j (slot starts 0 k))
+
 -- the steps of the place whose count stands at a bit are on the card, if they are few enough
 pub record Laid (s : List ℕ) (place : ℕ) (minutes prices : List ℕ) (at : ℕ) : Type 0 where
   pub held : countAt s place ≤ 16 → Carded s (place + 12) 32 (countAt s place) minutes prices at

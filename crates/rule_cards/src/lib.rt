@@ -3,7 +3,7 @@ ghost use Prim.Native.Nat.{_+_, _≤_, _<_};
 ghost use Rattle.plan.specs.Sheet.{AtMost};
 ghost use Rattle.rule_b.specs.Rule.{Is};
 ghost use Rattle.rule_b.specs.Cursor.{shown};
-ghost use Rattle.rule_cards.specs.Cards.{Tidy, DepartureTested, StepTested, BandTested};
+ghost use Rattle.rule_cards.specs.Cards.{Tidy, DepartureTested, StepTested, BandTested, StepsTested, BandsTested};
 use card::Shown;
 use leg::Cents;
 use leg::Minute;
@@ -103,4 +103,54 @@ fn band_obeys(
         to,
         Minute(arrival),
     )
+}
+
+// The rule at the first `steps` steps of the place that the leg leaves.
+fn steps_obey(
+    minutes: &[u32],
+    prices: &[u32],
+    from: usize,
+    to: usize,
+    starts: &[u32],
+    tolls: &[u32],
+    steps: usize,
+    time: Minute,
+    latest: Minute,
+) -> bool
+    requires { ⌜ Tidy (now minutes) (now prices) from × Tidy (now minutes) (now prices) to × Tidy (now starts) (now tolls) 0 × (steps ≤ 16) × (time .0 ≤ 2879) × (latest .0 ≤ 2879) ⌝ }
+    ensures { λ r. ⌜ StepsTested (now (minutes .entry)) (now (prices .entry)) from to (now (starts .entry)) (now (tolls .entry)) (time .0) (latest .0) steps r ⌝ }
+{
+    let mut k = 0;
+    while k < steps {
+        if !step_obeys(minutes, prices, from, to, starts, tolls, k, time, latest) {
+            return false;
+        }
+        k += 1;
+    }
+    true
+}
+
+// The rule where each of the leg's first `bands` bands starts.
+fn bands_obey(
+    minutes: &[u32],
+    prices: &[u32],
+    from: usize,
+    to: usize,
+    starts: &[u32],
+    tolls: &[u32],
+    bands: usize,
+    time: Minute,
+    latest: Minute,
+) -> bool
+    requires { ⌜ Tidy (now minutes) (now prices) from × Tidy (now minutes) (now prices) to × Tidy (now starts) (now tolls) 0 × (bands ≤ 16) × (time .0 ≤ 2879) × (latest .0 ≤ 2879) ⌝ }
+    ensures { λ r. ⌜ BandsTested (now (minutes .entry)) (now (prices .entry)) from to (now (starts .entry)) (now (tolls .entry)) (time .0) (latest .0) bands r ⌝ }
+{
+    let mut k = 0;
+    while k < bands {
+        if !band_obeys(minutes, prices, from, to, starts, tolls, k, time, latest) {
+            return false;
+        }
+        k += 1;
+    }
+    true
 }
