@@ -51,11 +51,11 @@ pub record Boards (N : Network) (place : ℕ) (time : Minute) (r : Ride) : Type 
 
 -- one ride further: it may be boarded, and then this is where, when and at what cost one stands
 pub record Rode (N : Network) (r : Ride) (old new : State) : Type 0 where
-  pub boards : Is (new .on) (Boards N (old .place) (old .time) r)
+  pub boards : Is (new .on) (Boards N (old .place) (old .time .0) r)
   pub place : new .on ≡ true → new .place ≡ N .target (r .leg)
-  pub time : new .on ≡ true → new .time ≡ arrives N r
-  pub cost : new .on ≡ true → new .cost ≡ old .cost + N .toll (r .leg) (r .leave)
-  pub near : new .cost ≤ old .cost + 65535
+  pub time : new .on ≡ true → new .time .0 ≡ arrives N r
+  pub cost : new .on ≡ true → new .cost .0 ≡ old .cost .0 + N .toll (r .leg) (r .leave)
+  pub near : new .cost .0 ≤ old .cost .0 + 65535
 
 -- a query that the gate goes on with
 pub record Asked (s : List ℕ) (q : Query) : Type 0 where

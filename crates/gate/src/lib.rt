@@ -26,12 +26,15 @@ use plan_file::Query;
 use plan_reader::Plan;
 use source::Origin;
 
+// A sum of cents, which 32 bits might not hold.
+pub struct Total(pub u64);
+
 // Where a plan stands after some of its rides, when, and at what cost; `on` is false once a ride could not be boarded.
 pub struct State {
     pub on: bool,
     pub place: u32,
-    pub time: u32,
-    pub cost: u64,
+    pub time: Minute,
+    pub cost: Total,
 }
 
 // Start and end are places, and the times are minutes.
@@ -54,22 +57,24 @@ fn known(places: u32, query: Query) -> bool
 fn off(state: State) -> State
     ensures { λ r. ⌜ r ≡ record { on = false; place = state .place; time = state .time; cost = state .cost } ⌝ }
 {
+    let time = state.time;
+    let cost = state.cost;
     State {
         on: false,
         place: state.place,
-        time: state.time,
-        cost: state.cost,
+        time,
+        cost,
     }
 }
 
 // One ride of a plan further.
 fn ride(net: &[u8], size: Size, chart: &[u32; 512], plan: &[u8], k: usize, state: State) -> State
-    requires { ⌜ Known-file (now net) size (now chart) × (89 + 21 * (k + 1) ≤ 8 * length (now plan)) × (k ≤ 4096) × (state .cost ≤ 1000000000) ⌝ }
+    requires { ⌜ Known-file (now net) size (now chart) × (89 + 21 * (k + 1) ≤ 8 * length (now plan)) × (k ≤ 4096) × (state .cost .0 ≤ 1000000000) ⌝ }
     ensures { λ r. ⌜ Rode (theoryAt (now (net .entry))) (rideAt (now (plan .entry)) k) state r ⌝ }
 {
     let said = reader::pair(plan, 89 + 21 * k, 9, 12);
     let number = said.first as usize;
-    let departure = said.second;
+    let departure = Minute(said.second);
     if size.legs <= number {
         return off(state);
     }
@@ -77,16 +82,19 @@ fn ride(net: &[u8], size: Size, chart: &[u32; 512], plan: &[u8], k: usize, state
     if leg.from != state.place {
         return off(state);
     }
-    let arrived = state.time;
-    if departure < arrived {
+    let leaves = departure.0;
+    let arrived = state.time.0;
+    if leaves < arrived {
         return off(state);
     }
-    let toll = leg.toll_at(Minute(departure));
+    let toll = leg.toll_at(departure);
+    let arrival = departure.0 + leg.time.0;
+    let cost = state.cost.0 + toll.0 as u64;
     State {
         on: true,
         place: leg.to,
-        time: departure + leg.time.0,
-        cost: state.cost + toll.0 as u64,
+        time: Minute(arrival),
+        cost: Total(cost),
     }
 }
 
@@ -100,11 +108,12 @@ fn plan_holds(net: &[u8], size: Size, chart: &[u32; 512], plan: &[u8], read: Pla
     }
     let query = read.query;
     let legs = read.legs;
+    let earliest = query.earliest;
     let mut state = State {
         on: true,
         place: query.start,
-        time: query.earliest.0,
-        cost: 0,
+        time: earliest,
+        cost: Total(0),
     };
     let mut k = 0;
     while k < legs {
@@ -120,25 +129,25 @@ fn plan_holds(net: &[u8], size: Size, chart: &[u32; 512], plan: &[u8], read: Pla
         return false;
     }
     let latest = query.latest.0;
-    let time = state.time;
+    let time = state.time.0;
     if latest < time {
         return false;
     }
     let stated = read.cost.0 as u64;
-    let cost = state.cost;
+    let cost = state.cost.0;
     cost == stated
 }
 
 // Rule (a): does the place have the value 0 at earliest?
-fn starts(sheet: &[u8], place: u32, earliest: u32, latest: u32) -> bool
-    requires { ⌜ PlaceAsked (now sheet) place (window earliest latest) × (earliest < 4096) ⌝ }
-    ensures { λ r. ⌜ Is r (value (placeAt (now (sheet .entry)) place) earliest ≡ some 0) ⌝ }
+fn starts(sheet: &[u8], place: u32, earliest: Minute, latest: Minute) -> bool
+    requires { ⌜ PlaceAsked (now sheet) place (window (earliest .0) (latest .0)) × (earliest .0 < 4096) ⌝ }
+    ensures { λ r. ⌜ Is r (value (placeAt (now (sheet .entry)) place) (earliest .0) ≡ some 0) ⌝ }
 {
     let first = rule_b::value_at(sheet, place, earliest, earliest, latest);
     if !first.has {
         return false; // no value at all
     }
-    first.price == 0
+    first.price.0 == 0
 }
 
 // Rule (b) for leg k.
@@ -149,11 +158,11 @@ fn leg_rules(
     sheet: &[u8],
     index: &[u32; 64],
     k: usize,
-    earliest: u32,
-    latest: u32,
+    earliest: Minute,
+    latest: Minute,
 ) -> bool
-    requires { ⌜ Known-file (now net) size (now chart) × Placed (now sheet) (size .places) (window earliest latest) (now index) × (k < size .legs) ⌝ }
-    ensures { λ r. ⌜ Is r (RuleOf (now (net .entry)) (now (sheet .entry)) (now (index .entry)) latest k) ⌝ }
+    requires { ⌜ Known-file (now net) size (now chart) × Placed (now sheet) (size .places) (window (earliest .0) (latest .0)) (now index) × (k < size .legs) ⌝ }
+    ensures { λ r. ⌜ Is r (RuleOf (now (net .entry)) (now (sheet .entry)) (now (index .entry)) (latest .0) k) ⌝ }
 {
     let leg = chart[k] as usize;
     let from = reader::field(net, leg, 6) as usize;
@@ -173,8 +182,8 @@ fn obeys(
     requires { ⌜ Known-file (now net) size (now chart) × Placed (now sheet) (size .places) (windowOf query) (now index) × (query .start < size .places) × (query .earliest .0 ≤ 2879) ⌝ }
     ensures { λ r. ⌜ Is r (Ruled (now (net .entry)) (now (sheet .entry)) (now (index .entry)) (size .legs) (queryOf query)) ⌝ }
 {
-    let earliest = query.earliest.0;
-    let latest = query.latest.0;
+    let earliest = query.earliest;
+    let latest = query.latest;
     let start = query.start as usize;
     if !starts(sheet, index[start], earliest, latest) {
         return false;
@@ -191,9 +200,16 @@ fn obeys(
 }
 
 // Is the place's value at latest the stated cost, or is there none for "none"?
-fn tight(sheet: &[u8], place: u32, earliest: u32, latest: u32, verdict: u32, cost: Cents) -> bool
-    requires { ⌜ PlaceAsked (now sheet) place (window earliest latest) × (latest < 4096) ⌝ }
-    ensures { λ r. ⌜ Is r (value (placeAt (now (sheet .entry)) place) latest ≡ statedCost verdict (cost .0)) ⌝ }
+fn tight(
+    sheet: &[u8],
+    place: u32,
+    earliest: Minute,
+    latest: Minute,
+    verdict: u32,
+    cost: Cents,
+) -> bool
+    requires { ⌜ PlaceAsked (now sheet) place (window (earliest .0) (latest .0)) × (latest .0 < 4096) ⌝ }
+    ensures { λ r. ⌜ Is r (value (placeAt (now (sheet .entry)) place) (latest .0) ≡ statedCost verdict (cost .0)) ⌝ }
 {
     let last = rule_b::value_at(sheet, place, latest, earliest, latest);
     if verdict == 0 {
@@ -202,7 +218,7 @@ fn tight(sheet: &[u8], place: u32, earliest: u32, latest: u32, verdict: u32, cos
     if !last.has {
         return false;
     }
-    last.price == cost.0
+    last.price.0 == cost.0
 }
 
 // The sheet, after the plan.
@@ -211,8 +227,8 @@ fn judge_sheet(net: &[u8], size: Size, chart: &[u32; 512], sheet: &[u8], read: P
     ensures { λ r. ⌜ OfSheet r (theoryAt (now (net .entry))) (queryOf (read .query)) (statedCost (read .verdict) (read .cost .0)) (sheetAt (now (net .entry)) (now (sheet .entry)) (queryOf (read .query))) ⌝ }
 {
     let query = read.query;
-    let earliest = query.earliest.0;
-    let latest = query.latest.0;
+    let earliest = query.earliest;
+    let latest = query.latest;
     let found = sheet_file::sheet_from(sheet, size.places, earliest, latest);
     if !found.sound {
         return Answer::Refused(Refusal::SheetFile);

@@ -6,7 +6,7 @@ use mathlib.Core.Path.{_≡_, refl, sym, _∙_, ap}
 use borrow.Author.Tests.{lt-ltb, le-ltb}
 use lib.ListN.{getD}
 use Rattle.leg.specs.declared.Leg.{Leg}
-use Rattle.leg.specs.Ranges.{noBand}
+use Rattle.leg.specs.Ranges.{minute, cents, noBand}
 use Rattle.leg.specs.Toll.{tollOfFirst, tollAt, either}
 use Rattle.leg.proofs.Laws.{toll-begun, toll-later}
 use Rattle.plan.specs.Network.{Minute}
@@ -31,17 +31,17 @@ some-band leg k next e h = at (decLt k (leg .count))
     at (no n) = absurd (omega (arith, e, start-none leg k (omega arith)))
 
 -- before the first band nothing is passed
-pub banded-none : (leg : Leg) (t next : Minute) → next ≡ startOr leg 0 → Banded leg t (record { passed = 0; next = next; toll = 0 })
+pub banded-none : (leg : Leg) (t next : Minute) → next ≡ startOr leg 0 → Banded leg t (record { passed = 0; next = minute next; toll = cents 0 })
 unfolding tollOfFirst
 banded-none leg t next e = record { few = omega arith; next-is = e; known = λ u h. refl; small = omega arith }
 
-pub banded-more : (leg : Leg) (t : Minute) (old : Tolls) (next toll : ℕ) → InOrder leg → Banded leg t old → old .next ≤ t → t < 4096
+pub banded-more : (leg : Leg) (t : Minute) (old : Tolls) (next toll : ℕ) → InOrder leg → Banded leg t old → old .next .0 ≤ t → t < 4096
     → toll ≡ getD (leg .bands) (old .passed) noBand .toll .0
     → next ≡ startOr leg (old .passed + 1)
-    → Banded leg t (record { passed = old .passed + 1; next = next; toll = toll })
+    → Banded leg t (record { passed = old .passed + 1; next = minute next; toll = cents toll })
 banded-more leg t old next toll o b h l e n =
     let k = old .passed in
-    let low = some-band leg k (old .next) (b .next-is) (omega arith) in
+    let low = some-band leg k (old .next .0) (b .next-is) (omega arith) in
     let start = b .next-is ∙ start-some leg k low in
     record {
       few = omega arith;
@@ -72,7 +72,7 @@ module _ (leg : Leg) (o : InOrder leg) where
       ∙ none-after p i u (omega arith) l
 
   -- THE TOLL UP TO THE NEXT BAND
-  pub banded-toll : (t : Minute) (c : Tolls) → Banded leg t c → (u : Minute) → t ≤ u → u < c .next → tollAt leg u ≡ c .toll
+  pub banded-toll : (t : Minute) (c : Tolls) → Banded leg t c → (u : Minute) → t ≤ u → u < c .next .0 → tollAt leg u ≡ c .toll .0
   banded-toll t c b u l k =
       let p = c .passed in
       let e : leg .count ≡ p + (leg .count - p) = omega (arith, b .few) in

@@ -6,6 +6,7 @@ use mathlib.Core.Bool.{Bool, true, false}
 use mathlib.Core.Option.{some}
 use mathlib.Core.List.{List}
 use Rattle.leg.specs.declared.Leg.{Leg}
+use Rattle.leg.specs.Ranges.{minute, cents}
 use Rattle.bits.proofs.Fields.{field-below}
 use Rattle.plan.specs.Network.{Minute, Cents, Query}
 use Rattle.plan.specs.Sheet.{value}
@@ -41,61 +42,61 @@ pub record Walking (s : List ℕ) (leg : Leg) (from to : ℕ) (q : Query) (i j :
 pub moved-at : (s : List ℕ) (t t′ : Minute) (old new : Cursor) → Moved s t old new → t ≡ t′ → Moved s t′ old new
 moved-at s t t′ old new m e = subst (λ u. Moved s u old new) e m
 
-held-next : (s : List ℕ) (c : Cursor) → Held s c → c .next ≤ 4096
+held-next : (s : List ℕ) (c : Cursor) → Held s c → c .next .0 ≤ 4096
 held-next s c h = at (c .left) refl
   where
-    at : (n : ℕ) → c .left ≡ n → c .next ≤ 4096
+    at : (n : ℕ) → c .left ≡ n → c .next .0 ≤ 4096
     at zero e = omega (arith, h .next-is, first-none s (c .at) (c .left) e)
     at (suc n) e =
         omega (arith, h .next-is, first-some s (c .at) (c .left) (omega arith), field-below s (c .at) 12)
 
 pub walking-start : (s : List ℕ) (leg : Leg) (from to : ℕ) (q : Query) (i j : Cursor) (next : Minute) → LegAsked s leg from to q
     → Begun s from i → Begun s to j → next ≡ startOr leg 0
-    → Walking s leg from to q i j (record { passed = 0; next = next; toll = 0 }) (i .next)
+    → Walking s leg from to q i j (record { passed = 0; next = minute next; toll = cents 0 }) (i .next .0)
 walking-start s leg from to q i j next a bi bj e = record {
   asked = a;
   i-held = bi .held;
   j-held = bj .held;
-  i-at = reached-begun s q from (i .next) i bi (a .from-place .steps);
-  j-at = reached-begun s q to (i .next + leg .time .0) j bj (a .to-place .steps);
-  bands = banded-none leg (i .next) next e;
+  i-at = reached-begun s q from (i .next .0) i bi (a .from-place .steps);
+  j-at = reached-begun s q to (i .next .0 + leg .time .0) j bj (a .to-place .steps);
+  bands = banded-none leg (i .next .0) next e;
   before = λ u h arrives x is. absurd (never u h x is);
   upto = held-next s i (bi .held);
 }
   where
-    never : (u : Minute) → u < i .next → (x : Cents) → value (placeAt s from) u ≡ some x → ⊥
+    never : (u : Minute) → u < i .next .0 → (x : Cents) → value (placeAt s from) u ≡ some x → ⊥
     never u h x is =
-        let first : i .next ≡ firstOf (placeAt s from) = bi .held .next-is ∙ (λ k. firstOf (bi .all k)) in
+        let first : i .next .0 ≡ firstOf (placeAt s from) = bi .held .next-is ∙ (λ k. firstOf (bi .all k)) in
         let nothing = none-before q (placeAt s from) (steps-sorted q (placeAt s from) (a .from-place .steps)) u (omega (arith, first)) in
         let z : _≡_ {A = ℕ} 0 1 = cc in
         omega arith
 
 module _ (s : List ℕ) (leg : Leg) (from to : ℕ) (q : Query) (i j : Cursor) (tolls : Tolls) (d : Minute)
     (w : Walking s leg from to q i j tolls d) (arrives : d + leg .time .0 ≤ q .latest)
-    (i′ : Cursor) (mi : Moved s d i i′) (tolls′ : Tolls) (tb : Banded leg d tolls′) (tn : d < tolls′ .next)
+    (i′ : Cursor) (mi : Moved s d i i′) (tolls′ : Tolls) (tb : Banded leg d tolls′) (tn : d < tolls′ .next .0)
     (j′ : Cursor) (mj : Moved s (d + leg .time .0) j j′) where
-  here-i : (u : Minute) → d ≤ u → u < i′ .next → value (placeAt s from) u ≡ shown (i′ .has) (i′ .price)
+  here-i : (u : Minute) → d ≤ u → u < i′ .next .0 → value (placeAt s from) u ≡ shown (i′ .has) (i′ .price .0)
   here-i = reached-value s q (placeAt s from) d i′ (mi .held) (mi .reached q (placeAt s from) (w .i-at))
 
-  here-j : value (placeAt s to) (d + leg .time .0) ≡ shown (j′ .has) (j′ .price)
+  here-j : value (placeAt s to) (d + leg .time .0) ≡ shown (j′ .has) (j′ .price .0)
   here-j =
       reached-value s q (placeAt s to) (d + leg .time .0) j′ (mj .held) (mj .reached q (placeAt s to) (w .j-at)) (d + leg .time .0) (omega arith)
       (mj .past)
 
-  toll-here : (u : Minute) → d ≤ u → u < tolls′ .next → Rattle.leg.specs.Toll.tollAt leg u ≡ tolls′ .toll
+  toll-here : (u : Minute) → d ≤ u → u < tolls′ .next .0 → Rattle.leg.specs.Toll.tollAt leg u ≡ tolls′ .toll .0
   toll-here = banded-toll leg (w .asked .order) d tolls′ tb
 
   -- the rule is broken at this departure
-  pub turn-broken : (Covers (shown (i′ .has) (i′ .price)) (shown (j′ .has) (j′ .price)) (tolls′ .toll) → ⊥)
+  pub turn-broken : (Covers (shown (i′ .has) (i′ .price .0)) (shown (j′ .has) (j′ .price .0)) (tolls′ .toll .0) → ⊥)
       → RuleB (q .latest) leg (placeAt s from) (placeAt s to) → ⊥
   turn-broken no-cover rule =
       no-cover
-      (rule-covers q leg (placeAt s from) (placeAt s to) (w .asked .to-place .steps) d (shown (i′ .has) (i′ .price)) (shown (j′ .has) (j′ .price))
-      (tolls′ .toll) (here-i d (omega arith) (mi .past)) here-j (toll-here d (omega arith) tn) (rule d arrives))
+      (rule-covers q leg (placeAt s from) (placeAt s to) (w .asked .to-place .steps) d (shown (i′ .has) (i′ .price .0)) (shown (j′ .has) (j′ .price .0))
+      (tolls′ .toll .0) (here-i d (omega arith) (mi .past)) here-j (toll-here d (omega arith) tn) (rule d arrives))
 
   -- or it holds up to the next step and the next band
-  pub turn-on : Covers (shown (i′ .has) (i′ .price)) (shown (j′ .has) (j′ .price)) (tolls′ .toll)
-      → (next : Minute) → next ≤ i′ .next → next ≤ tolls′ .next → d < next
+  pub turn-on : Covers (shown (i′ .has) (i′ .price .0)) (shown (j′ .has) (j′ .price .0)) (tolls′ .toll .0)
+      → (next : Minute) → next ≤ i′ .next .0 → next ≤ tolls′ .next .0 → d < next
       → Walking s leg from to q i′ j′ tolls′ next
   turn-on cover next ni nt later = record {
     asked = w .asked;
@@ -108,8 +109,8 @@ module _ (s : List ℕ) (leg : Leg) (from to : ℕ) (q : Query) (i j : Cursor) (
     before =
         rule-further q leg (placeAt s from) (placeAt s to) (w .asked .to-place .steps) d (q .latest) next (w .before)
         (λ u l k.
-        covers-rule q leg (placeAt s from) (placeAt s to) (w .asked .to-place .steps) d (shown (i′ .has) (i′ .price))
-        (shown (j′ .has) (j′ .price)) (tolls′ .toll) here-j cover u l (here-i u l (omega arith)) (toll-here u l (omega arith)));
+        covers-rule q leg (placeAt s from) (placeAt s to) (w .asked .to-place .steps) d (shown (i′ .has) (i′ .price .0))
+        (shown (j′ .has) (j′ .price .0)) (tolls′ .toll .0) here-j cover u l (here-i u l (omega arith)) (toll-here u l (omega arith)));
     upto = omega (arith, held-next s i′ (mi .held));
   }
 

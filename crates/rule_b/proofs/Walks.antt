@@ -26,7 +26,7 @@ pub first-some : (s : List ℕ) (at n : ℕ) → 0 < n → firstOf (stepsAt s at
 first-some s at n h = let e : n ≡ suc (n - 1) = omega arith in ap firstOf (ahead-more s at n (n - 1) e)
 
 -- a cursor whose next step has a minute has a step left
-pub some-left : (s : List ℕ) (c : Cursor) → Held s c → c .next < 4096 → 0 < c .left
+pub some-left : (s : List ℕ) (c : Cursor) → Held s c → c .next .0 < 4096 → 0 < c .left
 some-left s c h l = at (c .left) refl
   where
     at : (n : ℕ) → c .left ≡ n → 0 < c .left
@@ -55,7 +55,7 @@ steps-sorted q (x ∷ xs) h = h .1
 -- one step further
 module _ (s : List ℕ) (q : Query) (ss : List Step) (t : Minute) (old new : Cursor) (m : ℕ) (more : old .left ≡ suc m)
     (due : field s (old .at) 12 ≤ t)
-    (at-is : new .at ≡ old .at + 44) (left-is : new .left ≡ m) (has-is : new .has ≡ true) (price-is : new .price ≡ field s (old .at + 12) 32) where
+    (at-is : new .at ≡ old .at + 44) (left-is : new .left ≡ m) (has-is : new .has ≡ true) (price-is : new .price .0 ≡ field s (old .at + 12) 32) where
   ahead-is : ahead s old ≡ stepAt s (old .at) ∷ ahead s new
   ahead-is = ahead-more s (old .at) (old .left) m more ∙ rw (at-is, left-is)
 
@@ -63,20 +63,20 @@ module _ (s : List ℕ) (q : Query) (ss : List Step) (t : Minute) (old new : Cur
   reached-more r = record {
     split = λ u h.
         r .split u h
-        ∙ ap (λ (xs : List Step). orElse (value xs u) (shown (old .has) (old .price))) ahead-is
-        ∙ ap (λ b. orElse (orElse (value (ahead s new) u) (cond b (some (field s (old .at + 12) 32)) none)) (shown (old .has) (old .price)))
+        ∙ ap (λ (xs : List Step). orElse (value xs u) (shown (old .has) (old .price .0))) ahead-is
+        ∙ ap (λ b. orElse (orElse (value (ahead s new) u) (cond b (some (field s (old .at + 12) 32)) none)) (shown (old .has) (old .price .0)))
         (le-leb (field s (old .at) 12) u (omega (arith, due)))
-        ∙ else-past (value (ahead s new) u) (shown (old .has) (old .price)) (field s (old .at + 12) 32)
+        ∙ else-past (value (ahead s new) u) (shown (old .has) (old .price .0)) (field s (old .at + 12) 32)
         ∙ ap₂ (λ b (x : ℕ). orElse (value (ahead s new) u) (shown b x)) (sym has-is) (sym price-is);
     sorted = sorted-rest q (stepAt s (old .at)) (ahead s new) (subst (λ (xs : List Step). Sorted q xs) ahead-is (r .sorted));
   }
 
 -- what a cursor shows up to its next step
 pub reached-value : (s : List ℕ) (q : Query) (ss : List Step) (t : Minute) (c : Cursor) → Held s c → Reached s q ss t c
-    → (u : Minute) → t ≤ u → u < c .next → value ss u ≡ shown (c .has) (c .price)
+    → (u : Minute) → t ≤ u → u < c .next .0 → value ss u ≡ shown (c .has) (c .price .0)
 reached-value s q ss t c h r u l k =
     r .split u l
-    ∙ ap (λ v. orElse v (shown (c .has) (c .price))) (none-before q (ahead s c) (r .sorted) u (omega (arith, h .next-is)))
+    ∙ ap (λ v. orElse v (shown (c .has) (c .price .0))) (none-before q (ahead s c) (r .sorted) u (omega (arith, h .next-is)))
 
 pub reached-later : (s : List ℕ) (q : Query) (ss : List Step) (t t′ : Minute) (c : Cursor) → t ≤ t′ → Reached s q ss t c → Reached s q ss t′ c
 reached-later s q ss t t′ c l r = record { split = λ u h. r .split u (omega arith); sorted = r .sorted }
@@ -86,7 +86,7 @@ pub reached-begun : (s : List ℕ) (q : Query) (place : ℕ) (t : Minute) (c : C
     → Reached s q (placeAt s place) t c
 reached-begun s q place t c b h = record {
   split = λ u l. sym (else-none (value (placeAt s place) u)) ∙ ap (λ (xs : List Step). orElse (value xs u) none) (sym (b .all))
-      ∙ ap (λ x. orElse (value (ahead s c) u) (shown x (c .price))) (sym (b .nothing));
+      ∙ ap (λ x. orElse (value (ahead s c) u) (shown x (c .price .0))) (sym (b .nothing));
   sorted = subst (λ (xs : List Step). Sorted q xs) (sym (b .all)) (steps-sorted q (placeAt s place) h);
 }
   where

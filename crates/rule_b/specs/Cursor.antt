@@ -40,7 +40,7 @@ ahead s c = stepsAt s (c .at) (c .left)
 pub record Held (s : List ℕ) (c : Cursor) : Type 0 where
   pub inside : c .at + 44 * c .left ≤ 8 * length s
   pub near : c .at + 44 * c .left ≤ 8589934592
-  pub next-is : c .next ≡ firstOf (ahead s c)
+  pub next-is : c .next .0 ≡ firstOf (ahead s c)
 
 -- steps in order
 abbrev pub Sorted : Query → List Step → Type 0
@@ -49,7 +49,7 @@ Sorted q (x ∷ xs) = StepsAfter q x xs
 
 -- the cursor has passed steps of ss, all of them at or before minute t
 pub record Reached (s : List ℕ) (q : Query) (ss : List Step) (t : Minute) (c : Cursor) : Type 0 where
-  pub split : (u : Minute) → t ≤ u → value ss u ≡ orElse (value (ahead s c) u) (shown (c .has) (c .price))
+  pub split : (u : Minute) → t ≤ u → value ss u ≡ orElse (value (ahead s c) u) (shown (c .has) (c .price .0))
   pub sorted : Sorted q (ahead s c)
 
 -- before the first step of the place whose count stands at a bit
@@ -61,7 +61,7 @@ pub record Begun (s : List ℕ) (place : ℕ) (c : Cursor) : Type 0 where
 -- what moving a cursor forward to minute t leaves
 pub record Moved (s : List ℕ) (t : Minute) (old new : Cursor) : Type 0 where
   pub held : Held s new
-  pub past : t < new .next
+  pub past : t < new .next .0
   pub reached : (q : Query) (ss : List Step) → Reached s q ss t old → Reached s q ss t new
 
 -- where band k of a leg starts; never, if it has no such band
@@ -71,9 +71,9 @@ startOr leg k = either (ltb k (leg .count)) (getD (leg .bands) k noBand .start .
 -- the leg's bands so far, all of which have begun at minute t
 pub record Banded (leg : Leg) (t : Minute) (c : Tolls) : Type 0 where
   pub few : c .passed ≤ leg .count
-  pub next-is : c .next ≡ startOr leg (c .passed)
-  pub known : (u : Minute) → t ≤ u → tollOfFirst (c .passed) (leg .bands) u ≡ c .toll
-  pub small : c .toll ≤ 65535
+  pub next-is : c .next .0 ≡ startOr leg (c .passed)
+  pub known : (u : Minute) → t ≤ u → tollOfFirst (c .passed) (leg .bands) u ≡ c .toll .0
+  pub small : c .toll .0 ≤ 65535
 
 -- the value at the arrival covers the value at the departure and the toll
 abbrev pub Covers : Option Cents → Option Cents → Cents → Type 0

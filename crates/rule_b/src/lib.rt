@@ -8,32 +8,37 @@ ghost use Rattle.sheet_file.specs.InPlace.{stepsAt, placeAt, countAt};
 ghost use Rattle.rule_b.specs.Rule.{Is, RuleB, InOrder};
 ghost use Rattle.rule_b.specs.InFile.{legAt, LegThere};
 ghost use Rattle.rule_b.specs.Cursor.{firstOf, shown, startOr, Held, Begun, Moved, Banded, Covers, Or, PlaceAsked, LegAsked};
+use leg::Cents;
+use leg::Minute;
+
+// Later than every minute.
+const NEVER: u32 = 4096;
 
 // A place in a list of steps: the bit of the next step, how many are left, its minute; and the cost of the last step passed, if there is one.
 pub struct Cursor {
     pub at: usize,
     pub left: usize,
-    pub next: u32,
+    pub next: Minute,
     pub has: bool,
-    pub price: u32,
+    pub price: Cents,
 }
 
 // A place in a leg's bands: how many are passed, where the next starts, and the toll of the last that was passed.
 pub struct Tolls {
     pub passed: usize,
-    pub next: u32,
-    pub toll: u32,
+    pub next: Minute,
+    pub toll: Cents,
 }
 
 // The minute of the first of `left` steps at a bit.
-fn first(sheet: &[u8], at: usize, left: usize) -> u32
+fn first(sheet: &[u8], at: usize, left: usize) -> Minute
     requires { ⌜ at + 44 * left ≤ 8 * length (now sheet) ⌝ }
-    ensures { λ r. ⌜ r ≡ firstOf (stepsAt (now (sheet .entry)) at left) ⌝ }
+    ensures { λ r. ⌜ r .0 ≡ firstOf (stepsAt (now (sheet .entry)) at left) ⌝ }
 {
     if left == 0 {
-        return 4096;
+        return Minute(NEVER);
     }
-    reader::field(sheet, at, 12)
+    Minute(reader::field(sheet, at, 12))
 }
 
 // Before the first step of the place whose count stands at a bit.
@@ -49,22 +54,22 @@ fn begin(sheet: &[u8], place: u32) -> Cursor
         left,
         next,
         has: false,
-        price: 0,
+        price: Cents(0),
     }
 }
 
 // Past every step up to a minute.
-fn forward(sheet: &[u8], cursor: Cursor, minute: u32) -> Cursor
-    requires { ⌜ Held (now sheet) cursor × (minute < 4096) ⌝ }
-    ensures { λ r. ⌜ Moved (now (sheet .entry)) minute cursor r ⌝ }
+fn forward(sheet: &[u8], cursor: Cursor, minute: Minute) -> Cursor
+    requires { ⌜ Held (now sheet) cursor × (minute .0 < 4096) ⌝ }
+    ensures { λ r. ⌜ Moved (now (sheet .entry)) (minute .0) cursor r ⌝ }
 {
     let mut at = cursor.at;
     let mut left = cursor.left;
     let mut next = cursor.next;
     let mut has = cursor.has;
     let mut price = cursor.price;
-    while next <= minute {
-        price = reader::field(sheet, at + 12, 32);
+    while next.0 <= minute.0 {
+        price = Cents(reader::field(sheet, at + 12, 32));
         has = true;
         at += 44;
         left -= 1;
@@ -82,42 +87,43 @@ fn forward(sheet: &[u8], cursor: Cursor, minute: u32) -> Cursor
 // The value of a place at a minute, and whether it has one.
 pub struct Value {
     pub has: bool,
-    pub price: u32,
+    pub price: Cents,
 }
 
 // The value at a minute of the place whose count of steps stands at a bit.
-pub fn value_at(sheet: &[u8], place: u32, minute: u32, earliest: u32, latest: u32) -> Value
-    requires { ⌜ PlaceAsked (now sheet) place (window earliest latest) × (minute < 4096) ⌝ }
-    ensures { λ r. ⌜ value (placeAt (now (sheet .entry)) place) minute ≡ shown (r .has) (r .price) ⌝ }
+pub fn value_at(sheet: &[u8], place: u32, minute: Minute, earliest: Minute, latest: Minute) -> Value
+    requires { ⌜ PlaceAsked (now sheet) place (window (earliest .0) (latest .0)) × (minute .0 < 4096) ⌝ }
+    ensures { λ r. ⌜ value (placeAt (now (sheet .entry)) place) (minute .0) ≡ shown (r .has) (r .price .0) ⌝ }
 {
     let cursor = forward(sheet, begin(sheet, place), minute);
+    let price = cursor.price;
     Value {
         has: cursor.has,
-        price: cursor.price,
+        price,
     }
 }
 
 // Where band k of the leg at a bit starts.
-fn start_of(net: &[u8], leg: usize, count: usize, k: usize) -> u32
+fn start_of(net: &[u8], leg: usize, count: usize, k: usize) -> Minute
     requires { ⌜ LegThere (now net) leg count ⌝ }
-    ensures { λ r. ⌜ r ≡ startOr (legAt (now (net .entry)) leg) k ⌝ }
+    ensures { λ r. ⌜ r .0 ≡ startOr (legAt (now (net .entry)) leg) k ⌝ }
 {
     if count <= k {
-        return 4096;
+        return Minute(NEVER);
     }
-    reader::field(net, leg + 28 + 28 * k, 12)
+    Minute(reader::field(net, leg + 28 + 28 * k, 12))
 }
 
 // Past every band that has begun at a minute.
-fn begun(net: &[u8], leg: usize, count: usize, tolls: Tolls, minute: u32) -> Tolls
-    requires { ⌜ LegThere (now net) leg count × InOrder (legAt (now net) leg) × Banded (legAt (now net) leg) minute tolls × (minute < 4096) ⌝ }
-    ensures { λ r. ⌜ Banded (legAt (now (net .entry)) leg) minute r × (minute < r .next) ⌝ }
+fn begun(net: &[u8], leg: usize, count: usize, tolls: Tolls, minute: Minute) -> Tolls
+    requires { ⌜ LegThere (now net) leg count × InOrder (legAt (now net) leg) × Banded (legAt (now net) leg) (minute .0) tolls × (minute .0 < 4096) ⌝ }
+    ensures { λ r. ⌜ Banded (legAt (now (net .entry)) leg) (minute .0) r × (minute .0 < r .next .0) ⌝ }
 {
     let mut passed = tolls.passed;
     let mut next = tolls.next;
     let mut toll = tolls.toll;
-    while next <= minute {
-        toll = reader::field(net, leg + 28 + 28 * passed + 12, 16);
+    while next.0 <= minute.0 {
+        toll = Cents(reader::field(net, leg + 28 + 28 * passed + 12, 16));
         passed += 1;
         next = start_of(net, leg, count, passed);
     }
@@ -126,7 +132,7 @@ fn begun(net: &[u8], leg: usize, count: usize, tolls: Tolls, minute: u32) -> Tol
 
 // Does the value at the arrival cover the value at the departure and the toll?
 fn covered(from: Cursor, tolls: Tolls, to: Cursor) -> bool
-    ensures { λ r. ⌜ Is r (Covers (shown (from .has) (from .price)) (shown (to .has) (to .price)) (tolls .toll)) ⌝ }
+    ensures { λ r. ⌜ Is r (Covers (shown (from .has) (from .price .0)) (shown (to .has) (to .price .0)) (tolls .toll .0)) ⌝ }
 {
     if !from.has {
         return true;
@@ -134,14 +140,14 @@ fn covered(from: Cursor, tolls: Tolls, to: Cursor) -> bool
     if !to.has {
         return false;
     }
-    to.price as u64 <= from.price as u64 + tolls.toll as u64
+    to.price.0 as u64 <= from.price.0 as u64 + tolls.toll.0 as u64
 }
 
 // The smaller of two minutes.
-fn sooner(a: u32, b: u32) -> u32
-    ensures { λ r. ⌜ (r ≤ a) × (r ≤ b) × Or (r ≡ a) (r ≡ b) ⌝ }
+fn sooner(a: Minute, b: Minute) -> Minute
+    ensures { λ r. ⌜ (r .0 ≤ a .0) × (r .0 ≤ b .0) × Or (r .0 ≡ a .0) (r .0 ≡ b .0) ⌝ }
 {
-    if a < b {
+    if a.0 < b.0 {
         return a;
     }
     b
@@ -155,13 +161,13 @@ pub fn leg_obeys(
     sheet: &[u8],
     from: u32,
     to: u32,
-    earliest: u32,
-    latest: u32,
+    earliest: Minute,
+    latest: Minute,
 ) -> bool
-    requires { ⌜ LegThere (now net) leg (legAt (now net) leg .count) × LegAsked (now sheet) (legAt (now net) leg) from to (window earliest latest) ⌝ }
-    ensures { λ r. ⌜ Is r (RuleB latest (legAt (now (net .entry)) leg) (placeAt (now (sheet .entry)) from) (placeAt (now (sheet .entry)) to)) ⌝ }
+    requires { ⌜ LegThere (now net) leg (legAt (now net) leg .count) × LegAsked (now sheet) (legAt (now net) leg) from to (window (earliest .0) (latest .0)) ⌝ }
+    ensures { λ r. ⌜ Is r (RuleB (latest .0) (legAt (now (net .entry)) leg) (placeAt (now (sheet .entry)) from) (placeAt (now (sheet .entry)) to)) ⌝ }
 {
-    let time = reader::field(net, leg + 12, 12);
+    let time = Minute(reader::field(net, leg + 12, 12));
     let count = reader::field(net, leg + 24, 4) as usize;
     let mut i = begin(sheet, from);
     let mut j = begin(sheet, to);
@@ -169,13 +175,15 @@ pub fn leg_obeys(
     let mut tolls = Tolls {
         passed: 0,
         next,
-        toll: 0,
+        toll: Cents(0),
     };
     let mut departure = i.next;
-    while departure + time <= latest {
+    while departure.0 + time.0 <= latest.0 {
         i = forward(sheet, i, departure);
         tolls = begun(net, leg, count, tolls, departure);
-        j = forward(sheet, j, departure + time);
+        let after = departure.0 + time.0;
+        let arrival = Minute(after);
+        j = forward(sheet, j, arrival);
         if !covered(i, tolls, j) {
             return false;
         }

@@ -17,7 +17,7 @@ window earliest latest = record { start = 0; end = 0; earliest = earliest; lates
 -- one step was judged, and its values are handed on
 pub record StepIs (s : List ℕ) (at : ℕ) (low latest : Minute) (limit : Cents) (r : StepFound) : Type 0 where
   pub tested : Tested (r .sound) (step low latest limit (fileOf s) at) (stepAt s at) (at + 44)
-  pub values : r .sound ≡ true → record { minute = r .minute; price = r .price } ≡ stepAt s at
+  pub values : r .sound ≡ true → record { minute = r .minute .0; price = r .price .0 } ≡ stepAt s at
 
 -- one place was judged, and where it ends is handed on
 pub record PlaceIs (s : List ℕ) (at : ℕ) (q : Query) (r : PlaceFound) : Type 0 where

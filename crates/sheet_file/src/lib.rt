@@ -2,16 +2,22 @@
 ghost use mathlib.Core.Path.{_≡_};
 ghost use mathlib.Core.Bool.{false};
 ghost use Prim.Native.Nat.{_+_, _*_, _≤_};
+ghost use Rattle.leg.specs.Ranges.{minute, cents};
 ghost use Rattle.source.specs.Source.{fileOf};
 ghost use Rattle.sheet_file.specs.SheetFile.{step, steps, top, sheetOf, anyCost};
 ghost use Rattle.sheet_file.specs.InPlace.{stepsAt, Tested, Judged};
 ghost use Rattle.sheet_file.specs.Window.{StepIs, PlaceIs, window};
+use leg::Cents;
+use leg::Minute;
+
+// A place has at most one step a minute.
+const MOST_STEPS: usize = Minute::LAST as usize + 1;
 
 // A step, where it is sound.
 pub struct StepFound {
     pub sound: bool,
-    pub minute: u32,
-    pub price: u32,
+    pub minute: Minute,
+    pub price: Cents,
 }
 
 // Whether a place's steps are sound, and the bit after them.
@@ -28,33 +34,33 @@ pub struct SheetFound {
 
 // What an unsound step comes back as.
 fn no_step() -> StepFound
-    ensures { λ r. ⌜ r ≡ record { sound = false; minute = 0; price = 0 } ⌝ }
+    ensures { λ r. ⌜ r ≡ record { sound = false; minute = minute 0; price = cents 0 } ⌝ }
 {
     StepFound {
         sound: false,
-        minute: 0,
-        price: 0,
+        minute: Minute(0),
+        price: Cents(0),
     }
 }
 
 // One step: its minute from `low` to `latest`, its cost below `limit`.
-fn step_from(sheet: &[u8], at: usize, low: u32, latest: u32, limit: u64) -> StepFound
+fn step_from(sheet: &[u8], at: usize, low: Minute, latest: Minute, limit: u64) -> StepFound
     requires { ⌜ at ≤ 9000000 ⌝ }
-    ensures { λ r. ⌜ StepIs (now (sheet .entry)) at low latest limit r ⌝ }
+    ensures { λ r. ⌜ StepIs (now (sheet .entry)) at (low .0) (latest .0) limit r ⌝ }
 {
     if !reader::there(sheet, at, 44) {
         return no_step();
     }
     let step = reader::pair(sheet, at, 12, 32);
-    let minute = step.first;
-    let price = step.second;
-    if minute < low {
+    let minute = Minute(step.first);
+    let price = Cents(step.second);
+    if minute.0 < low.0 {
         return no_step();
     }
-    if latest < minute {
+    if latest.0 < minute.0 {
         return no_step();
     }
-    if limit <= price as u64 {
+    if limit <= price.0 as u64 {
         return no_step();
     }
     StepFound {
@@ -65,9 +71,9 @@ fn step_from(sheet: &[u8], at: usize, low: u32, latest: u32, limit: u64) -> Step
 }
 
 // Are the steps of a place, which begin at bit `at`, sound?
-fn steps_sound(sheet: &[u8], at: usize, count: usize, earliest: u32, latest: u32) -> bool
+fn steps_sound(sheet: &[u8], at: usize, count: usize, earliest: Minute, latest: Minute) -> bool
     requires { ⌜ (at ≤ 8500000) × (count ≤ 2880) ⌝ }
-    ensures { λ r. ⌜ Tested r (steps count earliest latest anyCost (fileOf (now (sheet .entry))) at) (stepsAt (now (sheet .entry)) at count) (at + 44 * count) ⌝ }
+    ensures { λ r. ⌜ Tested r (steps count (earliest .0) (latest .0) anyCost (fileOf (now (sheet .entry))) at) (stepsAt (now (sheet .entry)) at count) (at + 44 * count) ⌝ }
 {
     let mut low = earliest;
     let mut limit: u64 = 0x1_0000_0000;
@@ -77,17 +83,18 @@ fn steps_sound(sheet: &[u8], at: usize, count: usize, earliest: u32, latest: u32
         if !step.sound {
             return false;
         }
-        low = step.minute + 1;
-        limit = step.price as u64;
+        let after = step.minute.0 + 1;
+        low = Minute(after);
+        limit = step.price.0 as u64;
         k += 1;
     }
     true
 }
 
 // One place: the number of its steps, then the steps.
-fn place_from(sheet: &[u8], at: usize, earliest: u32, latest: u32) -> PlaceFound
+fn place_from(sheet: &[u8], at: usize, earliest: Minute, latest: Minute) -> PlaceFound
     requires { ⌜ at ≤ 8200000 ⌝ }
-    ensures { λ r. ⌜ PlaceIs (now (sheet .entry)) at (window earliest latest) r ⌝ }
+    ensures { λ r. ⌜ PlaceIs (now (sheet .entry)) at (window (earliest .0) (latest .0)) r ⌝ }
 {
     if !reader::there(sheet, at, 12) {
         return PlaceFound {
@@ -96,7 +103,7 @@ fn place_from(sheet: &[u8], at: usize, earliest: u32, latest: u32) -> PlaceFound
         };
     }
     let count = reader::field(sheet, at, 12) as usize;
-    if 2880 < count {
+    if MOST_STEPS < count {
         return PlaceFound {
             sound: false,
             after: 0,
@@ -123,9 +130,9 @@ fn top_sound(sheet: &[u8], places: u32) -> bool
 }
 
 // A whole sheet file.
-pub fn sheet_from(sheet: &[u8], places: u32, earliest: u32, latest: u32) -> SheetFound
+pub fn sheet_from(sheet: &[u8], places: u32, earliest: Minute, latest: Minute) -> SheetFound
     requires { ⌜ places ≤ 64 ⌝ }
-    ensures { λ r. ⌜ Judged (now (sheet .entry)) places (sheetOf places (window earliest latest) (now (sheet .entry))) r ⌝ }
+    ensures { λ r. ⌜ Judged (now (sheet .entry)) places (sheetOf places (window (earliest .0) (latest .0)) (now (sheet .entry))) r ⌝ }
 {
     let mut index = [0; 64];
     if !top_sound(sheet, places) {

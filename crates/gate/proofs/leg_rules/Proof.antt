@@ -102,9 +102,9 @@ returns c =
     let leg = legOf (a .net .now) (a .k) in
     let from = c .before .before .before .before .field in
     let to = c .before .before .before .field2 in
-    let rule = rule-there (a .net .now) (getD (a .chart .now) (a .k) 0) leg (a .latest) (placeAt s (getD index (from .result) 0)) (placeAt s (getD index (to .result) 0)) (c .leg-obeys .result) same (c .leg-obeys .ensures) in
-    subst (λ p. Is (c .leg-obeys .result) (RuleB (a .latest) leg (placeAt s (getD index p 0)) (placeAt s (getD index (leg .to) 0)))) (from .ensures ∙ same .from-is)
-    (subst (λ p. Is (c .leg-obeys .result) (RuleB (a .latest) leg (placeAt s (getD index (from .result) 0)) (placeAt s (getD index p 0)))) (to .ensures ∙ same .to-is) rule)
+    let rule = rule-there (a .net .now) (getD (a .chart .now) (a .k) 0) leg (a .latest .0) (placeAt s (getD index (from .result) 0)) (placeAt s (getD index (to .result) 0)) (c .leg-obeys .result) same (c .leg-obeys .ensures) in
+    subst (λ p. Is (c .leg-obeys .result) (RuleB (a .latest .0) leg (placeAt s (getD index p 0)) (placeAt s (getD index (leg .to) 0)))) (from .ensures ∙ same .from-is)
+    (subst (λ p. Is (c .leg-obeys .result) (RuleB (a .latest .0) leg (placeAt s (getD index (from .result) 0)) (placeAt s (getD index p 0)))) (to .ensures ∙ same .to-is) rule)
 
 pub leg-rules-spec : {M : Type 1} → statement M
 leg-rules-spec =

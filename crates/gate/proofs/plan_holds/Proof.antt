@@ -25,28 +25,28 @@ returns c =
 
 loop-holds : tie.Need-loop-holds Inv-loop μ-loop
 loop-holds c =
-    let a = c .before .before .before .before .before .args in
-    let d = c .before .before .before .before .before .pre .2 in (
+    let a = c .before .before .before .before .before .before .args in
+    let d = c .before .before .before .before .before .before .pre .2 in (
       omega arith,
       d .legs,
-      omega (arith, d .legs, says-few (a .plan .now) (c .before .before .before .before .before .pre .1)),
+      omega (arith, d .legs, says-few (a .plan .now) (c .before .before .before .before .before .before .pre .1)),
       riding-none (theoryAt (a .net .now)) (λ l t. tt) (fileAt (a .plan .now) .query) (a .plan .now) _ (ap (λ (q : Query). q .start) (d .query)) (ap (λ (q : Query). q .earliest) (d .query)) refl,
     )
 
 ride-requires : tie.Need-ride-requires Inv-loop μ-loop
 ride-requires c κs =
-    let a = c .before .before .before .before .before .before .before .args in
+    let a = c .before .before .before .before .before .before .before .before .args in
     let l = c .before .loop in
-    (c .before .before .before .before .before .before .before .pre .0, says-room (a .plan .now) (c .before .before .before .before .before .before .before .pre .1) (l .k) (omega (arith, c .loop-test .taken, l .inv .1)), omega (arith, l .inv .2, c .loop-test .taken), omega (arith, l .inv .3 .near, l .inv .2, c .loop-test .taken))
+    (c .before .before .before .before .before .before .before .before .pre .0, says-room (a .plan .now) (c .before .before .before .before .before .before .before .before .pre .1) (l .k) (omega (arith, c .loop-test .taken, l .inv .1)), omega (arith, l .inv .2, c .loop-test .taken), omega (arith, l .inv .3 .near, l .inv .2, c .loop-test .taken))
 
 returns-2 : tie.Need-returns-2 Inv-loop μ-loop
 returns-2 c =
-    let a = c .before .before .before .before .before .before .before .before .before .before .args in
+    let a = c .before .before .before .before .before .before .before .before .before .before .before .args in
     let l = c .before .before .before .before .loop in
-    let d = c .before .before .before .before .before .before .before .before .before .before .pre .2 in
+    let d = c .before .before .before .before .before .before .before .before .before .before .before .pre .2 in
     let s = a .plan .now in
     let N = theoryAt (a .net .now) in
-    let one = verdict-one s (λ z. c .before .before .before .before .before .before .if1 .left (d .verdict ∙ z)) in
+    let one = verdict-one s (λ z. c .before .before .before .before .before .before .before .if1 .left (d .verdict ∙ z)) in
     λ h.
     riding-not N (λ l t. tt) (fileAt s .query) s (l .k) (l .state) (c .before .before .ride .result) (l .inv .3) (c .before .before .ride .ensures) (not-true _ (c .if2 .taken))
     (runs-first N (λ l t. tt) (fileAt s .query) s (l .k + 1) (field s 77 12) (omega (arith, c .before .before .before .loop-test .taken, l .inv .1)) (h one .feasible .runs))
@@ -59,7 +59,7 @@ loop-less c = search needs
 
 loop-again : tie.Need-loop-again Inv-loop μ-loop
 loop-again c =
-    let a = c .before .before .before .before .before .before .before .before .before .before .args in
+    let a = c .before .before .before .before .before .before .before .before .before .before .before .args in
     let l = c .before .before .before .before .loop in (
       omega arith,
       l .inv .1,
@@ -69,38 +69,38 @@ loop-again c =
 
 returns-3 : tie.Need-returns-3 Inv-loop μ-loop
 returns-3 c =
-    let a = c .before .before .before .before .before .before .before .before .args in
-    let l = c .before .before .loop in
-    let d = c .before .before .before .before .before .before .before .before .pre .2 in
-    let s = a .plan .now in
-    let one = verdict-one s (λ z. c .before .before .before .before .if1 .left (d .verdict ∙ z)) in
-    let all : l .k ≡ field s 77 12 = omega (arith, c .before .loop-test .left, l .inv .0, l .inv .1) in
-    λ h.
-    omega (arith, c .if3 .taken, ends-there (a .net .now) s (c .before .before .before .before .before .before .before .before .pre .1) (l .state) (rw all at (l .inv .3)) (h one), ap (λ (q : Query). q .end) (d .query))
-
-returns-4 : tie.Need-returns-4 Inv-loop μ-loop
-returns-4 c =
     let a = c .before .before .before .before .before .before .before .before .before .args in
-    let l = c .before .before .before .loop in
+    let l = c .before .before .loop in
     let d = c .before .before .before .before .before .before .before .before .before .pre .2 in
     let s = a .plan .now in
     let one = verdict-one s (λ z. c .before .before .before .before .before .if1 .left (d .verdict ∙ z)) in
+    let all : l .k ≡ field s 77 12 = omega (arith, c .before .loop-test .left, l .inv .0, l .inv .1) in
+    λ h.
+    omega (arith, c .if3 .taken, ends-there (a .net .now) s (c .before .before .before .before .before .before .before .before .before .pre .1) (l .state) (rw all at (l .inv .3)) (h one), ap (λ (q : Query). q .end) (d .query))
+
+returns-4 : tie.Need-returns-4 Inv-loop μ-loop
+returns-4 c =
+    let a = c .before .before .before .before .before .before .before .before .before .before .args in
+    let l = c .before .before .before .loop in
+    let d = c .before .before .before .before .before .before .before .before .before .before .pre .2 in
+    let s = a .plan .now in
+    let one = verdict-one s (λ z. c .before .before .before .before .before .before .if1 .left (d .verdict ∙ z)) in
     let all : l .k ≡ field s 77 12 = omega (arith, c .before .before .loop-test .left, l .inv .0, l .inv .1) in
     λ h.
-    omega (arith, c .if4 .taken, ends-by (a .net .now) s (c .before .before .before .before .before .before .before .before .before .pre .1) (l .state) (rw all at (l .inv .3)) (h one), ap (λ (q : Query). q .latest) (d .query))
+    omega (arith, c .if4 .taken, ends-by (a .net .now) s (c .before .before .before .before .before .before .before .before .before .before .pre .1) (l .state) (rw all at (l .inv .3)) (h one), ap (λ (q : Query). q .latest) (d .query))
 
 cast-stated : tie.Need-cast-stated Inv-loop μ-loop
 cast-stated c = search needs
 
 returns-5 : tie.Need-returns-5 Inv-loop μ-loop
 returns-5 c =
-    let a = c .before .before .before .before .before .before .before .before .before .before .args in
+    let a = c .before .before .before .before .before .before .before .before .before .before .before .args in
     let l = c .before .before .before .before .loop in
-    let d = c .before .before .before .before .before .before .before .before .before .before .pre .2 in
+    let d = c .before .before .before .before .before .before .before .before .before .before .before .pre .2 in
     let s = a .plan .now in
-    let one = verdict-one s (λ z. c .before .before .before .before .before .before .if1 .left (d .verdict ∙ z)) in
+    let one = verdict-one s (λ z. c .before .before .before .before .before .before .before .if1 .left (d .verdict ∙ z)) in
     let all : l .k ≡ field s 77 12 = omega (arith, c .before .before .before .loop-test .left, l .inv .0, l .inv .1) in
-    last-test (a .net .now) s (c .before .before .before .before .before .before .before .before .before .before .pre .1) (l .state) (rw all at (l .inv .3)) _ (a .read .cost .0) (d .cost) refl one
+    last-test (a .net .now) s (c .before .before .before .before .before .before .before .before .before .before .before .pre .1) (l .state) (rw all at (l .inv .3)) _ (a .read .cost .0) (d .cost) refl one
     (c .before .before .if3 .left ∙ ap (λ (q : Query). q .end) (d .query)) (omega (arith, c .before .if4 .left, ap (λ (q : Query). q .latest) (d .query)))
 
 pub plan-holds-spec : {M : Type 1} → statement M

@@ -88,31 +88,31 @@ toll-at-requires : tie.Need-toll-at-requires
 toll-at-requires c κs =
     its-sound (c .before .before .before .before) .few-bands
 
-add-t18 : tie.Need-add-t18
-add-t18 c =
-    omega (arith, its-sound (c .before .before .before .before .before .before) .time-within, c .before .before .before .before .before .before .before .before .before .before .before .pair .ensures .1, field-below (c .before .before .before .before .before .before .before .before .before .before .before .before .before .before .args .plan .now) (89 + 21 * c .before .before .before .before .before .before .before .before .before .before .before .before .before .before .args .k + 9) 12)
+add-arrival : tie.Need-add-arrival
+add-arrival c =
+    omega (arith, its-sound (c .before .before .before .before .before .before .before) .time-within, c .before .before .before .before .before .before .before .before .before .before .before .before .pair .ensures .1, field-below (c .before .before .before .before .before .before .before .before .before .before .before .before .before .before .before .args .plan .now) (89 + 21 * c .before .before .before .before .before .before .before .before .before .before .before .before .before .before .before .args .k + 9) 12)
 
-cast-t20 : tie.Need-cast-t20
-cast-t20 c = search needs
+cast-cost : tie.Need-cast-cost
+cast-cost c = search needs
 
-add-t21 : tie.Need-add-t21
-add-t21 c =
-    omega (arith, c .before .before .before .toll-at .ensures, toll-small _ _ (c .before .before .before .before .before .before .before .before .before .before .before .before .before .pair .result .second) (its-sound (c .before .before .before .before .before .before .before .before)), c .before .before .before .before .before .before .before .before .before .before .before .before .before .before .before .before .pre .3)
+add-cost : tie.Need-add-cost
+add-cost c =
+    omega (arith, c .before .before .before .before .toll-at .ensures, toll-small _ _ (c .before .before .before .before .before .before .before .before .before .before .before .before .before .before .pair .result .second) (its-sound (c .before .before .before .before .before .before .before .before .before)), c .before .before .before .before .before .before .before .before .before .before .before .before .before .before .before .before .before .pre .3)
 
 returns-4 : tie.Need-returns-4
 returns-4 c =
-    let a = c .before .before .before .before .before .before .before .before .before .before .before .before .before .before .before .before .args in
+    let a = c .before .before .before .before .before .before .before .before .before .before .before .before .before .before .before .before .before .args in
     let n = a .net .now in
-    let w = c .before .before .before .before .before .before .before .before in
-    let leg = c .before .before .before .before .before .before .before .before .leg-at .result in
-    let number = c .before .before .before .before .before .before .before .before .before .before .before .before .before .pair .ensures .0 in
-    let when = c .before .before .before .before .before .before .before .before .before .before .before .before .before .pair .ensures .1 in
-    let low : rideAt (a .plan .now) (a .k) .leg < length (netAt n .legs) = omega (arith, number, c .before .before .before .before .before .before .before .before .before .before .if1 .left, read n (a .size) (a .chart .now) (c .before .before .before .before .before .before .before .before .before .before .before .before .before .before .before .before .pre .0) .legs) in
-    let toll = c .before .before .before .toll-at in
-    let small = toll-small _ _ (c .before .before .before .before .before .before .before .before .before .before .before .before .before .pair .result .second) (its-sound w) in
+    let w = c .before .before .before .before .before .before .before .before .before in
+    let leg = c .before .before .before .before .before .before .before .before .before .leg-at .result in
+    let number = c .before .before .before .before .before .before .before .before .before .before .before .before .before .before .pair .ensures .0 in
+    let when = c .before .before .before .before .before .before .before .before .before .before .before .before .before .before .pair .ensures .1 in
+    let low : rideAt (a .plan .now) (a .k) .leg < length (netAt n .legs) = omega (arith, number, c .before .before .before .before .before .before .before .before .before .before .before .if1 .left, read n (a .size) (a .chart .now) (c .before .before .before .before .before .before .before .before .before .before .before .before .before .before .before .before .before .pre .0) .legs) in
+    let toll = c .before .before .before .before .toll-at in
+    let small = toll-small _ _ (c .before .before .before .before .before .before .before .before .before .before .before .before .before .before .pair .result .second) (its-sound w) in
     rw when
-    (rode-on n (rideAt (a .plan .now) (a .k)) (a .state) leg (toll .result .0) (this-leg w ∙ ap (λ (x : ℕ). legOf n x) number) low (c .before .before .before .before .before .if2 .left)
-    (omega (arith, when, c .before .before .before .before .if3 .left)) (toll .ensures ∙ ap (λ (t : ℕ). tollAt leg t) when) (omega (arith, toll .ensures, small)))
+    (rode-on n (rideAt (a .plan .now) (a .k)) (a .state) leg (toll .result .0) (this-leg w ∙ ap (λ (x : ℕ). legOf n x) number) low (c .before .before .before .before .before .before .if2 .left)
+    (omega (arith, when, c .before .before .before .before .before .if3 .left)) (toll .ensures ∙ ap (λ (t : ℕ). tollAt leg t) when) (omega (arith, toll .ensures, small)))
 
 pub ride-spec : {M : Type 1} → statement M
 ride-spec =
@@ -132,7 +132,7 @@ ride-spec =
     off-requires-3
     returns-3
     toll-at-requires
-    add-t18
-    cast-t20
-    add-t21
+    add-arrival
+    cast-cost
+    add-cost
     returns-4)

@@ -9,12 +9,12 @@ use Rattle.rule_b.proofs.covered.Tie as tie
 returns : tie.Need-returns
 returns c =
     let a = c .before .before .args in
-    covers-none (a .from .has) (a .from .price) (a .tolls .toll) (shown (a .to .has) (a .to .price)) (not-true _ (c .if1 .taken))
+    covers-none (a .from .has) (a .from .price .0) (a .tolls .toll .0) (shown (a .to .has) (a .to .price .0)) (not-true _ (c .if1 .taken))
 
 returns-2 : tie.Need-returns-2
 returns-2 c =
     let a = c .before .before .before .before .args in
-    covers-not (a .from .has) (a .to .has) (a .from .price) (a .to .price) (a .tolls .toll) (not-false _ (c .before .before .if1 .left)) (not-true _ (c .if2 .taken))
+    covers-not (a .from .has) (a .to .has) (a .from .price .0) (a .to .price .0) (a .tolls .toll .0) (not-false _ (c .before .before .if1 .left)) (not-true _ (c .if2 .taken))
 
 cast-result : tie.Need-cast-result
 cast-result c = search needs
@@ -31,7 +31,7 @@ add-result c = search needs
 returns-3 : tie.Need-returns-3
 returns-3 c =
     let a = c .before .before .before .before .before .before .before .args in
-    covers-test (a .from .has) (a .to .has) (a .from .price) (a .to .price) (a .tolls .toll) (not-false _ (c .before .before .before .before .before .if1 .left)) (not-false _ (c .before .before .before .if2 .left)) _ refl
+    covers-test (a .from .has) (a .to .has) (a .from .price .0) (a .to .price .0) (a .tolls .toll .0) (not-false _ (c .before .before .before .before .before .if1 .left)) (not-false _ (c .before .before .before .if2 .left)) _ refl
 
 pub covered-spec : {M : Type 1} → statement M
 covered-spec =

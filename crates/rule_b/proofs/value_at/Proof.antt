@@ -15,13 +15,13 @@ forward-requires c κs =
 
 returns : tie.Need-returns
 returns c =
-    let a = c .before .before .before .args in
+    let a = c .before .before .before .before .args in
     let s = a .sheet .now in
-    let q = window (a .earliest) (a .latest) in
-    let m = c .forward .ensures in
-    reached-value s q (placeAt s (a .place)) (a .minute) (c .forward .result) (m .held)
-    (m .reached q (placeAt s (a .place)) (reached-begun s q (a .place) (a .minute) (c .before .begin .result) (c .before .begin .ensures) (c .before .before .before .pre .0 .steps)))
-    (a .minute) (omega arith) (m .past)
+    let q = window (a .earliest .0) (a .latest .0) in
+    let m = c .before .forward .ensures in
+    reached-value s q (placeAt s (a .place)) (a .minute .0) (c .before .forward .result) (m .held)
+    (m .reached q (placeAt s (a .place)) (reached-begun s q (a .place) (a .minute .0) (c .before .before .begin .result) (c .before .before .begin .ensures) (c .before .before .before .before .pre .0 .steps)))
+    (a .minute .0) (omega arith) (m .past)
 
 pub value-at-spec : {M : Type 1} → statement M
 value-at-spec = tie.close (tie.spec begin-requires forward-requires returns)

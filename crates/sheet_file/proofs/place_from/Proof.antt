@@ -19,7 +19,7 @@ returns : tie.Need-returns
 returns c =
     let a = c .before .before .before .args in
     let e : leb (a .at + 12) (8 * length (a .sheet .now)) ≡ false = sym (c .before .there .ensures) ∙ not-true _ (c .if1 .taken) in
-    record { tested = place-short (a .sheet .now) (a .at) (window (a .earliest) (a .latest)) e; near = omega arith; after = λ v. cc }
+    record { tested = place-short (a .sheet .now) (a .at) (window (a .earliest .0) (a .latest .0)) e; near = omega arith; after = λ v. cc }
 
 field-requires : tie.Need-field-requires
 field-requires c κs =
@@ -33,7 +33,7 @@ cast-count c = search needs
 returns-2 : tie.Need-returns-2
 returns-2 c =
     let a = c .before .before .before .before .before .args in
-    record { tested = place-many (a .sheet .now) (a .at) (window (a .earliest) (a .latest)) (omega (arith, c .before .field .ensures, c .if2 .taken)); near = omega arith; after = λ v. cc }
+    record { tested = place-many (a .sheet .now) (a .at) (window (a .earliest .0) (a .latest .0)) (omega (arith, c .before .field .ensures, c .if2 .taken)); near = omega arith; after = λ v. cc }
 
 add-steps-sound : tie.Need-add-steps-sound
 add-steps-sound c = search needs
@@ -57,8 +57,8 @@ returns-3 c =
     let n = c .before .before .field .ensures in
     let few : field (a .sheet .now) (a .at) 12 ≤ 2880 = omega (arith, n, c .before .if2 .left) in
     record {
-      tested = tested-is (a .sheet .now) (a .at) (window (a .earliest) (a .latest)) (c .steps-sound .result) (c .before .before .field .result) n
-          (place-steps (a .sheet .now) (a .at) (window (a .earliest) (a .latest)) e few) (c .steps-sound .ensures);
+      tested = tested-is (a .sheet .now) (a .at) (window (a .earliest .0) (a .latest .0)) (c .steps-sound .result) (c .before .before .field .result) n
+          (place-steps (a .sheet .now) (a .at) (window (a .earliest .0) (a .latest .0)) e few) (c .steps-sound .ensures);
       near = omega (arith, n, few);
       after = λ v. omega (arith, n);
     }

@@ -15,7 +15,7 @@ use Rattle.sheet_file.proofs.sheet_from.Tie as tie
 
 abbrev Inv-loop : tie.InvT-loop
 Inv-loop sheet places earliest latest index₀ count place₀ k₀ index place k =
-    (k ≤ count) × (count ≡ places) × (places ≤ 64) × (place ≤ 15 + 126732 * k) × (length index ≡ 64) × Partly sheet (window earliest latest) places k place index
+    (k ≤ count) × (count ≡ places) × (places ≤ 64) × (place ≤ 15 + 126732 * k) × (length index ≡ 64) × Partly sheet (window (earliest .0) (latest .0)) places k place index
 
 abbrev μ-loop : tie.MeasureT-loop
 μ-loop sheet places earliest latest index₀ count place₀ k₀ index place k =
@@ -28,12 +28,12 @@ returns : tie.Need-returns Inv-loop μ-loop
 returns c =
     let a = c .before .before .before .args in
     let bad = tested-false (c .before .top-sound .result) (top (a .places) (fileOf (a .sheet .now)) 0) tt 15 (not-true _ (c .if1 .taken)) (c .before .top-sound .ensures) in
-    judged-top (a .sheet .now) (window (a .earliest) (a .latest)) (a .places) _ bad refl
+    judged-top (a .sheet .now) (window (a .earliest .0) (a .latest .0)) (a .places) _ bad refl
 
 loop-holds : tie.Need-loop-holds Inv-loop μ-loop
 loop-holds c =
     let a = c .before .before .before .args in
-    (omega arith, refl, c .before .before .before .pre, omega arith, refl, partly-none (a .sheet .now) (window (a .earliest) (a .latest)) (a .places) _)
+    (omega arith, refl, c .before .before .before .pre, omega arith, refl, partly-none (a .sheet .now) (window (a .earliest .0) (a .latest .0)) (a .places) _)
 
 place-from-requires : tie.Need-place-from-requires Inv-loop μ-loop
 place-from-requires c κs = search needs
@@ -42,7 +42,7 @@ returns-2 : tie.Need-returns-2 Inv-loop μ-loop
 returns-2 c =
     let a = c .before .before .before .before .before .before .before .before .args in
     let l = c .before .before .before .before .loop in
-    let q = window (a .earliest) (a .latest) in
+    let q = window (a .earliest .0) (a .latest .0) in
     let head = tested-true (c .before .before .before .before .before .before .top-sound .result) (top (a .places) (fileOf (a .sheet .now)) 0) tt 15 (not-false _ (c .before .before .before .before .before .if1 .left)) (c .before .before .before .before .before .before .top-sound .ensures) in
     let r = c .before .before .place-from in
     let bad = tested-false (r .result .sound) (onePlace q (fileOf (a .sheet .now)) (l .place)) (placeAt (a .sheet .now) (l .place)) (r .result .after) (not-true _ (c .if2 .taken)) (r .ensures .tested) in
@@ -67,7 +67,7 @@ loop-again : tie.Need-loop-again Inv-loop μ-loop
 loop-again c =
     let a = c .before .before .before .before .before .before .before .before .args in
     let l = c .before .before .before .before .loop in
-    let q = window (a .earliest) (a .latest) in
+    let q = window (a .earliest .0) (a .latest .0) in
     let r = c .before .before .place-from in
     let good = tested-true (r .result .sound) (onePlace q (fileOf (a .sheet .now)) (l .place)) (placeAt (a .sheet .now) (l .place)) (r .result .after) (not-false _ (c .if2 .left)) (r .ensures .tested) in (
       omega arith,
@@ -85,7 +85,7 @@ returns-3 : tie.Need-returns-3 Inv-loop μ-loop
 returns-3 c =
     let a = c .before .before .before .before .before .before .args in
     let l = c .before .before .loop in
-    let q = window (a .earliest) (a .latest) in
+    let q = window (a .earliest .0) (a .latest .0) in
     let head = tested-true (c .before .before .before .before .top-sound .result) (top (a .places) (fileOf (a .sheet .now)) 0) tt 15 (not-false _ (c .before .before .before .if1 .left)) (c .before .before .before .before .top-sound .ensures) in
     let all : l .k ≡ a .places = omega arith in
     let p = l .inv .5 in

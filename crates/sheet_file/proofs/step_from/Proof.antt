@@ -20,7 +20,7 @@ returns : tie.Need-returns
 returns c =
     let a = c .before .before .before .before .args in
     let e : leb (a .at + 44) (8 * length (a .sheet .now)) ≡ false = sym (c .before .before .there .ensures) ∙ not-true _ (c .before .if1 .taken) in
-    rw (c .no-step .ensures) (record { tested = step-short (a .sheet .now) (a .at) (a .low) (a .latest) (a .limit) e; values = λ v. cc })
+    rw (c .no-step .ensures) (record { tested = step-short (a .sheet .now) (a .at) (a .low .0) (a .latest .0) (a .limit) e; values = λ v. cc })
 
 pair-requires : tie.Need-pair-requires
 pair-requires c κs =
@@ -33,18 +33,18 @@ no-step-requires-2 c κs = search needs
 
 returns-2 : tie.Need-returns-2
 returns-2 c =
-    let a = c .before .before .before .before .before .before .args in
+    let a = c .before .before .before .before .before .before .before .before .args in
     rw (c .no-step2 .ensures)
-    (record { tested = step-low (a .sheet .now) (a .at) (a .low) (a .latest) (a .limit) (omega (arith, c .before .before .pair .ensures .0, c .before .if2 .taken)); values = λ v. cc })
+    (record { tested = step-low (a .sheet .now) (a .at) (a .low .0) (a .latest .0) (a .limit) (omega (arith, c .before .before .before .before .pair .ensures .0, c .before .if2 .taken)); values = λ v. cc })
 
 no-step-requires-3 : tie.Need-no-step-requires-3
 no-step-requires-3 c κs = search needs
 
 returns-3 : tie.Need-returns-3
 returns-3 c =
-    let a = c .before .before .before .before .before .before .before .args in
+    let a = c .before .before .before .before .before .before .before .before .before .before .before .args in
     rw (c .no-step3 .ensures)
-    (record { tested = step-late (a .sheet .now) (a .at) (a .low) (a .latest) (a .limit) (omega (arith, c .before .before .before .pair .ensures .0, c .before .if3 .taken)); values = λ v. cc })
+    (record { tested = step-late (a .sheet .now) (a .at) (a .low .0) (a .latest .0) (a .limit) (omega (arith, c .before .before .before .before .before .before .before .pair .ensures .0, c .before .if3 .taken)); values = λ v. cc })
 
 cast-if4 : tie.Need-cast-if4
 cast-if4 c = search needs
@@ -54,18 +54,20 @@ no-step-requires-4 c κs = search needs
 
 returns-4 : tie.Need-returns-4
 returns-4 c =
-    let a = c .before .before .before .before .before .before .before .before .args in
+    let a = c .before .before .before .before .before .before .before .before .before .before .before .before .before .args in
     rw (c .no-step4 .ensures)
-    (record { tested = step-dear (a .sheet .now) (a .at) (a .low) (a .latest) (a .limit) (omega (arith, c .before .before .before .before .pair .ensures .1, c .before .if4 .taken)); values = λ v. cc })
+    (record { tested = step-dear (a .sheet .now) (a .at) (a .low .0) (a .latest .0) (a .limit) (omega (arith, c .before .before .before .before .before .before .before .before .before .pair .ensures .1, c .before .if4 .taken)); values = λ v. cc })
 
 returns-5 : tie.Need-returns-5
 returns-5 c =
-    let a = c .before .before .before .before .before .before .before .args in
-    let e : leb (a .at + 44) (8 * length (a .sheet .now)) ≡ true = sym (c .before .before .before .before .before .there .ensures) ∙ not-false _ (c .before .before .before .before .if1 .left) in
+    let first = c .before .before .before .before .before .before .before .before .before in
+    let pair = c .before .before .before .before .before .before .before .before .pair in
+    let a = first .before .before .before .args in
+    let e : leb (a .at + 44) (8 * length (a .sheet .now)) ≡ true = sym (first .before .there .ensures) ∙ not-false _ (first .if1 .left) in
     record {
-      tested = step-sound (a .sheet .now) (a .at) (a .low) (a .latest) (a .limit) e (omega (arith, c .before .before .before .pair .ensures .0, c .before .before .if2 .left))
-          (omega (arith, c .before .before .before .pair .ensures .0, c .before .if3 .left)) (omega (arith, c .before .before .before .pair .ensures .1, c .if4 .left));
-      values = λ v. cc (c .before .before .before .pair .ensures .0, c .before .before .before .pair .ensures .1);
+      tested = step-sound (a .sheet .now) (a .at) (a .low .0) (a .latest .0) (a .limit) e (omega (arith, pair .ensures .0, c .before .before .before .before .before .if2 .left))
+          (omega (arith, pair .ensures .0, c .before .before .if3 .left)) (omega (arith, pair .ensures .1, c .if4 .left));
+      values = λ v. cc (pair .ensures .0, pair .ensures .1);
     }
 
 pub step-from-spec : {M : Type 1} → statement M

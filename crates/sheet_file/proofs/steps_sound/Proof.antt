@@ -11,18 +11,18 @@ use Rattle.sheet_file.proofs.steps_sound.Statement.{statement}
 use Rattle.sheet_file.proofs.steps_sound.Tie as tie
 
 abbrev Inv-loop : tie.InvT-loop
-Inv-loop sheet at count earliest latest low₀ limit₀ k₀ low limit k =
+Inv-loop sheet at count latest low₀ limit₀ k₀ low limit k =
     (k ≤ count) × (count ≤ 2880) × (at ≤ 8500000)
-    × (steps count earliest latest anyCost (fileOf sheet) at ≡ prepend (stepsAt sheet at k) (steps (count - k) low latest limit (fileOf sheet) (at + 44 * k)))
+    × (steps count (low₀ .0) (latest .0) anyCost (fileOf sheet) at ≡ prepend (stepsAt sheet at k) (steps (count - k) (low .0) (latest .0) limit (fileOf sheet) (at + 44 * k)))
 
 abbrev μ-loop : tie.MeasureT-loop
-μ-loop sheet at count earliest latest low₀ limit₀ k₀ low limit k =
+μ-loop sheet at count latest low₀ limit₀ k₀ low limit k =
     count - k
 
 loop-holds : tie.Need-loop-holds Inv-loop μ-loop
 loop-holds c =
     let a = c .before .args in
-    (omega arith, omega arith, omega arith, loop-start (a .sheet .now) (a .at) (a .count) (a .earliest) (a .latest) anyCost)
+    (omega arith, omega arith, omega arith, loop-start (a .sheet .now) (a .at) (a .count) (a .earliest .0) (a .latest .0) anyCost)
 
 mul-step-from : tie.Need-mul-step-from Inv-loop μ-loop
 mul-step-from c = search needs
@@ -39,14 +39,14 @@ returns c =
     let l = c .before .before .before .before .loop in
     let r = c .before .before .step-from in
     let here = a .at + 44 * l .k in
-    let bad = tested-false (r .result .sound) (step (l .low) (a .latest) (l .limit) (fileOf (a .sheet .now)) here) (stepAt (a .sheet .now) here) (here + 44) (not-true _ (c .if1 .taken)) (r .ensures .tested) in
-    loop-nothing (a .sheet .now) (a .at) (a .count) (l .k) (a .earliest) (a .latest) anyCost (l .low) (l .limit) (l .inv .3) (c .before .before .before .loop-test .taken) bad
+    let bad = tested-false (r .result .sound) (step (l .low .0) (a .latest .0) (l .limit) (fileOf (a .sheet .now)) here) (stepAt (a .sheet .now) here) (here + 44) (not-true _ (c .if1 .taken)) (r .ensures .tested) in
+    loop-nothing (a .sheet .now) (a .at) (a .count) (l .k) (a .earliest .0) (a .latest .0) anyCost (l .low .0) (l .limit) (l .inv .3) (c .before .before .before .loop-test .taken) bad
 
-add-low : tie.Need-add-low Inv-loop μ-loop
-add-low c =
+add-after : tie.Need-add-after Inv-loop μ-loop
+add-after c =
     let a = c .before .before .before .before .before .before .before .args in
     let r = c .before .before .before .step-from in
-    omega (arith, minute-small (a .sheet .now) (a .at + 44 * c .before .before .before .before .before .loop .k) (r .result .minute) (r .result .price) (r .ensures .values (not-false _ (c .before .if1 .left))))
+    omega (arith, minute-small (a .sheet .now) (a .at + 44 * c .before .before .before .before .before .loop .k) (r .result .minute .0) (r .result .price .0) (r .ensures .values (not-false _ (c .before .if1 .left))))
 
 cast-limit : tie.Need-cast-limit Inv-loop μ-loop
 cast-limit c = search needs
@@ -64,18 +64,18 @@ loop-again c =
     let r = c .before .before .before .before .step-from in
     let here = a .at + 44 * l .k in
     let sound = not-false _ (c .before .before .if1 .left) in
-    let good = tested-true (r .result .sound) (step (l .low) (a .latest) (l .limit) (fileOf (a .sheet .now)) here) (stepAt (a .sheet .now) here) (here + 44) sound (r .ensures .tested) in (
+    let good = tested-true (r .result .sound) (step (l .low .0) (a .latest .0) (l .limit) (fileOf (a .sheet .now)) here) (stepAt (a .sheet .now) here) (here + 44) sound (r .ensures .tested) in (
       omega arith,
       omega arith,
       omega arith,
-      loop-more (a .sheet .now) (a .at) (a .count) (l .k) (a .earliest) (a .latest) anyCost (l .low) (l .limit) (l .inv .3) (c .before .before .before .before .before .loop-test .taken) (r .result .minute) (r .result .price) (r .ensures .values sound) good,
+      loop-more (a .sheet .now) (a .at) (a .count) (l .k) (a .earliest .0) (a .latest .0) anyCost (l .low .0) (l .limit) (l .inv .3) (c .before .before .before .before .before .loop-test .taken) (r .result .minute .0) (r .result .price .0) (r .ensures .values sound) good,
     )
 
 returns-2 : tie.Need-returns-2 Inv-loop μ-loop
 returns-2 c =
     let a = c .before .before .before .args in
     let l = c .before .loop in
-    loop-done (a .sheet .now) (a .at) (a .count) (l .k) (a .earliest) (a .latest) anyCost (l .low) (l .limit) (l .inv .3) (omega arith)
+    loop-done (a .sheet .now) (a .at) (a .count) (l .k) (a .earliest .0) (a .latest .0) anyCost (l .low .0) (l .limit) (l .inv .3) (omega arith)
 
 pub steps-sound-spec : {M : Type 1} → statement M
 steps-sound-spec =
@@ -88,7 +88,7 @@ steps-sound-spec =
     add-step-from
     step-from-requires
     returns
-    add-low
+    add-after
     cast-limit
     add-k
     loop-less
