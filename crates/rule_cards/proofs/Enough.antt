@@ -20,12 +20,7 @@ use Rattle.plan.specs.Network.{Minute, Cents, Query}
 use Rattle.plan.specs.Sheet.{Step, orElse, value, Steps}
 use Rattle.rule_b.specs.Rule.{RuleAt, RuleB}
 use Rattle.rule_b.proofs.Enough.{rule-covers, covers-rule}
-use Rattle.rule_cards.specs.Cards.{RuleIf}
-
--- a minute of one of these steps
-abbrev pub StepAt : List Step → Minute → Type 0
-StepAt [] m = ⊥
-StepAt (x ∷ xs) m = (m ≡ x .minute) ⊎ StepAt xs m
+use Rattle.rule_cards.specs.Cards.{RuleIf, StepAt}
 
 -- a place that has no value at a minute had none before
 no-value-before : (ss : List Step) (u d : Minute) → u ≤ d → value ss d ≡ none → value ss u ≡ none

@@ -26,8 +26,7 @@ use Rattle.rule_b.proofs.Walks.{first-none, first-some, none-before, steps-sort
 use Rattle.rule_b.proofs.InFile.{band-there}
 use Rattle.card.specs.declared.Shown.{Shown}
 use Rattle.card.specs.Card.{slot, never, Rising, Carded, Begun, Shows}
-use Rattle.rule_cards.specs.Cards.{Tidy, HoldsSteps, HoldsTolls}
-use Rattle.rule_cards.proofs.Enough.{StepAt}
+use Rattle.rule_cards.specs.Cards.{Tidy, HoldsSteps, HoldsTolls, StepAt}
 
 -- ---- any card
 

@@ -1,3 +1,4 @@
 pub mod Departures
 pub mod Enough
 pub mod Held
+pub mod Legs

@@ -1,9 +1,10 @@
 // Rule (b) for one leg by cards: where both its places have few steps, their values are found by counting; else the steps are walked.
 ghost use Prim.Native.Nat.{_+_, _≤_, _<_};
 ghost use Rattle.plan.specs.Sheet.{AtMost};
-ghost use Rattle.rule_b.specs.Rule.{Is};
+ghost use Rattle.rule_b.specs.Rule.{Is, InOrder};
+ghost use Rattle.rule_b.specs.InFile.{legAt, LegThere};
 ghost use Rattle.rule_b.specs.Cursor.{shown};
-ghost use Rattle.rule_cards.specs.Cards.{Tidy, DepartureTested, StepTested, BandTested, StepsTested, BandsTested};
+ghost use Rattle.rule_cards.specs.Cards.{Tidy, DepartureTested, StepTested, BandTested, StepsTested, BandsTested, AllTested, LegTested};
 use card::Shown;
 use leg::Cents;
 use leg::Minute;
@@ -153,4 +154,48 @@ fn bands_obey(
         k += 1;
     }
     true
+}
+
+// The rule at all of them.
+fn all_obey(
+    minutes: &[u32],
+    prices: &[u32],
+    from: usize,
+    to: usize,
+    starts: &[u32],
+    tolls: &[u32],
+    steps: usize,
+    bands: usize,
+    time: Minute,
+    latest: Minute,
+) -> bool
+    requires { ⌜ Tidy (now minutes) (now prices) from × Tidy (now minutes) (now prices) to × Tidy (now starts) (now tolls) 0 × (steps ≤ 16) × (bands ≤ 16) × (time .0 ≤ 2879) × (latest .0 ≤ 2879) ⌝ }
+    ensures { λ r. ⌜ AllTested (now (minutes .entry)) (now (prices .entry)) from to (now (starts .entry)) (now (tolls .entry)) (time .0) (latest .0) steps bands r ⌝ }
+{
+    if !steps_obey(minutes, prices, from, to, starts, tolls, steps, time, latest) {
+        return false;
+    }
+    bands_obey(minutes, prices, from, to, starts, tolls, bands, time, latest)
+}
+
+// Rule (b) for the leg at a bit of the network, between two places whose steps are on cards.
+fn cards_obey(
+    net: &[u8],
+    leg: usize,
+    minutes: &[u32],
+    prices: &[u32],
+    from: usize,
+    to: usize,
+    steps: usize,
+    latest: Minute,
+) -> bool
+    requires { ⌜ LegThere (now net) leg (legAt (now net) leg .count) × InOrder (legAt (now net) leg) × Tidy (now minutes) (now prices) from × Tidy (now minutes) (now prices) to × (steps ≤ 16) × (latest .0 ≤ 2879) ⌝ }
+    ensures { λ r. ⌜ LegTested (now (minutes .entry)) (now (prices .entry)) from to steps (legAt (now (net .entry)) leg) (latest .0) r ⌝ }
+{
+    let time = Minute(reader::field(net, leg + 12, 12));
+    let bands = reader::field(net, leg + 24, 4) as usize;
+    let mut starts = [4096u32; 16];
+    let mut tolls = [0u32; 16];
+    card::fill(net, leg + 28, 16, bands, &mut starts, &mut tolls, 0);
+    all_obey(minutes, prices, from, to, &starts, &tolls, steps, bands, time, latest)
 }

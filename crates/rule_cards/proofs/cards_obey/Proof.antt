@@ -1,0 +1,84 @@
+-- `rule_cards::cards_obey`: the leg's bands are put on a card, and then all is tested.
+use borrow.Author.Needs.{needs}
+use Prim.Native.Nat.{ℕ, _+_, _*_, _≤_, _<_}
+use native.Mathlib.Omega.{arith}
+use Rattle.rule_b.specs.InFile.{legAt}
+use Rattle.rule_cards.proofs.Legs.{blank-new, bands-tidy, between, leg-tested}
+use Rattle.rule_cards.proofs.cards_obey.Statement.{statement}
+use Rattle.rule_cards.proofs.cards_obey.Tie as tie
+
+returns : tie.Need-returns
+returns c i j h =
+    let s = c .before .before .before .before .before .before .before .before .before .before .before .before .before in
+    let a = s .args in
+    let bands = c .before .before .before .before .before .before .before .before .field2 in
+    let time = c .before .before .before .before .before .before .before .before .before .field in
+    let card = c .before .before .before .before .before .fill .ensures .0 in
+    let b = between (a .net .now) (a .leg) (s .pre .1) (a .minutes .now) (a .prices .now) (a .from) (a .to) (a .steps) i j h _ _ (bands .result) (time .result) (bands .ensures) (time .ensures) card in
+    leg-tested (a .net .now) (a .leg) (s .pre .1) (a .minutes .now) (a .prices .now) (a .from) (a .to) (a .steps) i j h _ _ (bands .result) (time .result) (bands .ensures) (time .ensures) card
+    (a .latest .0) (c .all-obey .result) (c .all-obey .ensures i j (legAt (a .net .now) (a .leg)) b)
+
+add-field : tie.Need-add-field
+add-field c = omega (arith, c .before .before .before .pre .0 .near)
+
+field-requires : tie.Need-field-requires
+field-requires c κs = (omega arith, omega arith, omega (arith, c .before .before .before .pre .0 .inside))
+
+add-field-2 : tie.Need-add-field-2
+add-field-2 c = omega (arith, c .before .before .before .before .pre .0 .near)
+
+field-requires-2 : tie.Need-field-requires-2
+field-requires-2 c κs = (omega arith, omega arith, omega (arith, c .before .before .before .before .pre .0 .inside))
+
+add-fill : tie.Need-add-fill
+add-fill c = omega (arith, c .before .before .before .before .before .pre .0 .near)
+
+fill-requires : tie.Need-fill-requires
+fill-requires c κs =
+    let h = c .before .before .before .before .before .before .before .pre .0 in
+    let bands = c .before .before .field2 in
+    (omega arith, omega arith, omega (arith, h .few, bands .ensures), omega (arith, h .near), omega (arith, h .inside, bands .ensures), omega arith, omega arith, omega arith, λ k low. blank-new 16 0 k (omega arith))
+
+all-obey-requires : tie.Need-all-obey-requires
+all-obey-requires c κs =
+    let s = c .before .before .before .before .before .before .before .before .before .before .before .before in
+    let a = s .args in
+    let h = s .pre in
+    let bands = c .before .before .before .before .before .before .before .field2 in
+    let time = c .before .before .before .before .before .before .before .before .field in
+    let fill = c .before .before .before .before .fill in
+    let tidy = bands-tidy (a .net .now) (a .leg) (h .1) _ _ (bands .result) (bands .ensures) (fill .ensures .0) (fill .ensures .1 .size) (fill .ensures .2 .size) in
+    (h .2, h .3, tidy, h .4, omega (arith, h .0 .few, bands .ensures), omega (arith, h .1 .time-within, time .ensures), h .5)
+
+cast-bands : tie.Need-cast-bands
+cast-bands c = search needs
+
+slice-aggregate-fill : tie.Need-slice-aggregate-fill
+slice-aggregate-fill c = search needs
+
+slice-aggregate-fill-2 : tie.Need-slice-aggregate-fill-2
+slice-aggregate-fill-2 c = search needs
+
+slice-aggregate-all-obey : tie.Need-slice-aggregate-all-obey
+slice-aggregate-all-obey c = search needs
+
+slice-aggregate-all-obey-2 : tie.Need-slice-aggregate-all-obey-2
+slice-aggregate-all-obey-2 c = search needs
+
+pub cards-obey-spec : {M : Type 1} → statement M
+cards-obey-spec =
+    tie.close
+    (tie.spec
+    add-field
+    field-requires
+    add-field-2
+    field-requires-2
+    cast-bands
+    add-fill
+    slice-aggregate-fill
+    slice-aggregate-fill-2
+    fill-requires
+    slice-aggregate-all-obey
+    slice-aggregate-all-obey-2
+    all-obey-requires
+    returns)
