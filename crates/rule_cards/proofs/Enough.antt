@@ -54,6 +54,7 @@ since-step (y ∷ ys) d x e = at (value ys d) refl (decLe (y .minute) d) (λ f. 
   where
     last : (w : Option Cents) → value ys d ≡ w → value (y ∷ ys) d ≡ orElse w (cond (leb (y .minute) d) (some (y .price)) none)
     last w f = ap (λ w. orElse w (cond (leb (y .minute) d) (some (y .price)) none)) f
+
     at : (w : Option Cents) → value ys d ≡ w → Dec (y .minute ≤ d) → (value ys d ≡ some x → Since ys d x) → Since (y ∷ ys) d x
     at (some z) f l further =
         let eq : z ≡ x = some-same z x (sym (last (some z) f) ∙ e) in
@@ -94,6 +95,7 @@ since-band (suc k) bands d = at (decLe (getD bands k noBand .start .0) d) (since
   where
     one-more : k + 1 ≡ suc k
     one-more = omega arith
+
     at : Dec (getD bands k noBand .start .0 ≤ d) → SinceBand k bands d → SinceBand (suc k) bands d
     at (yes l) r = record {
       minute = getD bands k noBand .start .0;
@@ -131,11 +133,14 @@ module _ (q : Query) (latest : Minute) (leg : Leg) (i j : List Step) (falls : St
     where
       s : Since i d x
       s = since-step i d x is
+
       b : SinceBand (leg .count) (leg .bands) d
       b = since-band (leg .count) (leg .bands) d
+
       at-band : (b .minute ≡ 0) ⊎ ((k : ℕ) × (k < leg .count) × (b .minute ≡ getD (leg .bands) k noBand .start .0)) → s .minute < b .minute → RuleIf latest leg i j (b .minute)
       at-band (inl e) l = absurd (omega arith)
       at-band (inr (k, low, e)) l = subst (λ (m : Minute). RuleIf latest leg i j m) (sym e) (bands k low)
+
       at : Dec (b .minute ≤ s .minute) → Rattle.plan.specs.Sheet.AtMost (value j (d + leg .time .0)) (x + tollAt leg d)
       at (yes l) =
           rule-since (s .minute) d x (s .before) arrives (steps (s .minute) (s .is-step)) (s .same (s .minute) (omega arith) (s .before)) is

@@ -138,11 +138,13 @@ module _ (q : Query) (s : List ℕ) (place : ℕ) (steps : Steps q (placeAt s pl
     where
       n-few : shows .slots ≤ countAt s place
       n-few = begun-few s (place + 12) 32 (countAt s place) minutes prices at card t (shows .slots) few low (shows .begun)
+
       value-is : value (placeAt s place) t ≡ lastOf s (place + 12) (shows .slots)
       value-is =
           value-begun q s t (shows .slots) (place + 12) (countAt s place) low n-few sorted
           (λ k h. omega (arith, shows .begun .before k h, card .minute-is k (omega (arith, n-few))))
           (λ h. omega (arith, shows .begun .after (shows .slots) (omega arith) (omega (arith, few)), card .minute-is (shows .slots) h))
+
       close : (n : ℕ) → shows .slots ≡ n → value (placeAt s place) t ≡ shown (r .has) (r .price .0)
       close zero e =
           let (no-value, no-price) = shows .nothing e in
@@ -230,6 +232,7 @@ module _ (s : List ℕ) (at : ℕ) (order : InOrder (legAt s at)) (starts tolls 
     where
       n-few : shows .slots ≤ legAt s at .count
       n-few = begun-few s (at + 28) 16 (legAt s at .count) starts tolls 0 card t (shows .slots) (omega (arith, order .few-bands)) low (shows .begun)
+
       close : (n : ℕ) → shows .slots ≡ n → tollAt (legAt s at) t ≡ r .price .0
       close zero e =
           let e′ : legAt s at .count ≡ 0 + legAt s at .count = omega arith in
@@ -249,8 +252,13 @@ module _ (s : List ℕ) (at : ℕ) (order : InOrder (legAt s at)) (starts tolls 
       (λ m l low.
       let e : k + 1 + (m - (k + 1)) ≡ m = omega arith in
       let up = ordered-up s (at + 28) 16 (legAt s at .count) bands-ordered (k + 1) (m - (k + 1)) (omega (arith, e)) in
-      omega (arith, card .minute-is k h, card .minute-is m low, bands-ordered k (omega arith),
-      subst (λ (n : ℕ). field s (at + 28 + (k + 1) * (12 + 16)) 12 ≤ field s (at + 28 + n * (12 + 16)) 12) e up))
+      omega (
+        arith,
+        card .minute-is k h,
+        card .minute-is m low,
+        bands-ordered k (omega arith),
+        subst (λ (n : ℕ). field s (at + 28 + (k + 1) * (12 + 16)) 12 ≤ field s (at + 28 + n * (12 + 16)) 12) e up,
+      ))
 
   -- where band k starts
   pub band-slot : (k : ℕ) → k < legAt s at .count → getD (legAt s at .bands) k noBand .start .0 ≡ slot starts 0 k

@@ -8,14 +8,15 @@ use lib.ListN.{length, getD, replicate, getD-replicate}
 use Rattle.bits.specs.Field.{field}
 use Rattle.leg.specs.declared.Leg.{Leg}
 use Rattle.leg.specs.Ranges.{noBand}
-use Rattle.plan.specs.Network.{Minute}
-use Rattle.plan.specs.Sheet.{Step}
+use Rattle.plan.specs.Network.{Minute, Query}
+use Rattle.plan.specs.Sheet.{Step, Steps}
+use Rattle.sheet_file.specs.InPlace.{placeAt, countAt}
 use Rattle.rule_b.specs.Rule.{Is, RuleB, InOrder}
 use Rattle.rule_b.specs.InFile.{legAt}
 use Rattle.card.specs.Card.{slot, never, Carded}
 use Rattle.rule_cards.specs.Cards.{Tidy, Between, RuleIf, RuleAtAll, Joins}
 use Rattle.rule_cards.proofs.Enough.{enough}
-use Rattle.rule_cards.proofs.Held.{tidy, bands-ordered, holds-tolls, band-on-card, band-slot}
+use Rattle.rule_cards.proofs.Held.{tidy, place-ordered, holds-steps, step-on-card, step-slot, bands-ordered, holds-tolls, band-on-card, band-slot}
 
 -- the steps obey, and then the test of the bands decides
 pub bands-decide : (minutes : List ℕ) (from : ℕ) (starts : List ℕ) (latest : Minute) (steps bands : ℕ) (i j : List Step) (leg : Leg) (b : Bool)
@@ -59,3 +60,24 @@ module _ (net : List ℕ) (at : ℕ) (order : InOrder (legAt net at)) (minutes p
       (λ k low. subst (λ (n : ℕ). RuleIf latest (legAt net at) i j n) (sym (band-slot net at order starts tolls whole-card k low)) (t .at-bands k (omega (arith, bands-is))))
   leg-tested latest false t =
       λ rule. t (record { at-steps = λ k l d. rule (slot minutes from k) d; at-bands = λ k l d. rule (slot starts 0 k) d })
+
+-- a place's steps on a card
+pub place-tidy : (q : Query) (s : List ℕ) (place : ℕ) → Steps q (placeAt s place) → (minutes prices : List ℕ) (at : ℕ)
+    → Carded s (place + 12) 32 (countAt s place) minutes prices at → countAt s place ≤ 16 → at ≤ 100000 → at + 16 ≤ length minutes → at + 16 ≤ length prices
+    → Tidy minutes prices at
+place-tidy q s place steps minutes prices at card few near room price-room =
+    tidy s (place + 12) 32 (countAt s place) minutes prices at card near room price-room (place-ordered q s place steps minutes prices at card few)
+
+-- and those of two places
+pub joined : (q : Query) (s : List ℕ) (i j : ℕ) → Steps q (placeAt s i) → Steps q (placeAt s j) → (minutes prices : List ℕ) (from to steps : ℕ)
+    → Carded s (i + 12) 32 (countAt s i) minutes prices from → Carded s (j + 12) 32 (countAt s j) minutes prices to
+    → countAt s i ≤ 16 → countAt s j ≤ 16 → steps ≡ countAt s i
+    → Joins minutes prices from to steps (placeAt s i) (placeAt s j)
+joined q s i j i-steps j-steps minutes prices from to steps i-card j-card i-few j-few e = record {
+  i-held = holds-steps q s i i-steps minutes prices from i-card i-few;
+  j-held = holds-steps q s j j-steps minutes prices to j-card j-few;
+  step-is = λ k l. step-on-card q s i i-steps minutes prices from i-card i-few k (omega (arith, e));
+  all = λ m is. let (k, low, at) = step-slot s i minutes prices from i-card m is in (k, omega (arith, e), at);
+  window = q;
+  falls = j-steps;
+}

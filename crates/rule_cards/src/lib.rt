@@ -1,10 +1,15 @@
 // Rule (b) for one leg by cards: where both its places have few steps, their values are found by counting; else the steps are walked.
-ghost use Prim.Native.Nat.{_+_, _≤_, _<_};
+ghost use Prim.Native.Nat.{_+_, _*_, _≤_, _<_};
 ghost use Rattle.plan.specs.Sheet.{AtMost};
-ghost use Rattle.rule_b.specs.Rule.{Is, InOrder};
+ghost use Rattle.rule_b.specs.Rule.{Is, RuleB, InOrder};
 ghost use Rattle.rule_b.specs.InFile.{legAt, LegThere};
-ghost use Rattle.rule_b.specs.Cursor.{shown};
-ghost use Rattle.rule_cards.specs.Cards.{Tidy, DepartureTested, StepTested, BandTested, StepsTested, BandsTested, AllTested, LegTested};
+ghost use Rattle.rule_b.specs.Cursor.{shown, LegAsked};
+ghost use Rattle.card.specs.Card.{Blank, Kept};
+ghost use Rattle.sheet_file.specs.InPlace.{placeAt, countAt};
+ghost use Rattle.sheet_file.specs.Window.{window};
+ghost use mathlib.Core.Path.{_≡_};
+ghost use lib.ListN.{length, replicate};
+ghost use Rattle.rule_cards.specs.Cards.{Tidy, DepartureTested, StepTested, BandTested, StepsTested, BandsTested, AllTested, LegTested, Laid, LaidOut, Inside};
 use card::Shown;
 use leg::Cents;
 use leg::Minute;
@@ -64,14 +69,7 @@ fn step_obeys(
         price: Cents(price),
     };
     let toll = card::look(starts, tolls, 0, Minute(departure));
-    departure_obeys(
-        minutes,
-        prices,
-        here,
-        toll.price,
-        to,
-        Minute(arrival),
-    )
+    departure_obeys(minutes, prices, here, toll.price, to, Minute(arrival))
 }
 
 // The rule where band k starts.
@@ -96,14 +94,7 @@ fn band_obeys(
     }
     let toll = tolls[k];
     let here = card::look(minutes, prices, from, Minute(departure));
-    departure_obeys(
-        minutes,
-        prices,
-        here,
-        Cents(toll),
-        to,
-        Minute(arrival),
-    )
+    departure_obeys(minutes, prices, here, Cents(toll), to, Minute(arrival))
 }
 
 // The rule at the first `steps` steps of the place that the leg leaves.
@@ -172,10 +163,30 @@ fn all_obey(
     requires { ⌜ Tidy (now minutes) (now prices) from × Tidy (now minutes) (now prices) to × Tidy (now starts) (now tolls) 0 × (steps ≤ 16) × (bands ≤ 16) × (time .0 ≤ 2879) × (latest .0 ≤ 2879) ⌝ }
     ensures { λ r. ⌜ AllTested (now (minutes .entry)) (now (prices .entry)) from to (now (starts .entry)) (now (tolls .entry)) (time .0) (latest .0) steps bands r ⌝ }
 {
-    if !steps_obey(minutes, prices, from, to, starts, tolls, steps, time, latest) {
+    if !steps_obey(
+        minutes,
+        prices,
+        from,
+        to,
+        starts,
+        tolls,
+        steps,
+        time,
+        latest,
+    ) {
         return false;
     }
-    bands_obey(minutes, prices, from, to, starts, tolls, bands, time, latest)
+    bands_obey(
+        minutes,
+        prices,
+        from,
+        to,
+        starts,
+        tolls,
+        bands,
+        time,
+        latest,
+    )
 }
 
 // Rule (b) for the leg at a bit of the network, between two places whose steps are on cards.
@@ -197,5 +208,79 @@ fn cards_obey(
     let mut starts = [4096u32; 16];
     let mut tolls = [0u32; 16];
     card::fill(net, leg + 28, 16, bands, &mut starts, &mut tolls, 0);
-    all_obey(minutes, prices, from, to, &starts, &tolls, steps, bands, time, latest)
+    all_obey(
+        minutes,
+        prices,
+        from,
+        to,
+        &starts,
+        &tolls,
+        steps,
+        bands,
+        time,
+        latest,
+    )
+}
+
+// The greater of two numbers of steps.
+fn most(a: usize, b: usize) -> usize
+    ensures { λ r. ⌜ (a ≤ r) × (b ≤ r) ⌝ }
+{
+    if a < b {
+        return b;
+    }
+    a
+}
+
+// Does the sheet obey rule (b) for the leg at a bit of the network, from place `from`, whose count of steps stands at bit i, to place `to` at bit j?
+pub fn leg_obeys(
+    net: &[u8],
+    leg: usize,
+    sheet: &[u8],
+    i: u32,
+    j: u32,
+    minutes: &[u32],
+    prices: &[u32],
+    from: usize,
+    to: usize,
+    earliest: Minute,
+    latest: Minute,
+) -> bool
+    requires { ⌜ LegThere (now net) leg (legAt (now net) leg .count) × LegAsked (now sheet) (legAt (now net) leg) i j (window (earliest .0) (latest .0))
+        × (from < 64) × (to < 64) × (length (now minutes) ≡ 1024) × (length (now prices) ≡ 1024)
+        × Laid (now sheet) i (now minutes) (now prices) (16 * from) × Laid (now sheet) j (now minutes) (now prices) (16 * to) ⌝ }
+    ensures { λ r. ⌜ Is r (RuleB (latest .0) (legAt (now (net .entry)) leg) (placeAt (now (sheet .entry)) i) (placeAt (now (sheet .entry)) j)) ⌝ }
+{
+    let steps = reader::field(sheet, i as usize, 12) as usize;
+    let others = reader::field(sheet, j as usize, 12) as usize;
+    if 16 < most(steps, others) {
+        return rule_b::leg_obeys(net, leg, sheet, i, j, earliest, latest);
+    }
+    cards_obey(net, leg, minutes, prices, 16 * from, 16 * to, steps, latest)
+}
+
+// Puts the steps of the place whose count stands at a bit on the card from slot `at` on, if it has room for them.
+fn lay_place(sheet: &[u8], place: u32, minutes: &mut [u32], prices: &mut [u32], at: usize)
+    requires { ⌜ (place + 12 + 44 * countAt (now sheet) place ≤ 8 * length (now sheet)) × (at ≤ 100000) × (at + 16 ≤ length (now minutes)) × (at + 16 ≤ length (now prices)) × Blank (now minutes) at ⌝ }
+    ensures { λ r. ⌜ Laid (now (sheet .entry)) place (now (minutes .exit)) (now (prices .exit)) at
+        × Kept (now (minutes .entry)) (now (minutes .exit)) at × Kept (now (prices .entry)) (now (prices .exit)) at ⌝ }
+{
+    let steps = reader::field(sheet, place as usize, 12) as usize;
+    if 16 < steps {
+        return;
+    }
+    let first = place as usize + 12;
+    card::fill(sheet, first, 32, steps, minutes, prices, at);
+}
+
+// The cards of all places.
+pub fn lay(sheet: &[u8], index: &[u32; 64], places: usize, minutes: &mut [u32], prices: &mut [u32])
+    requires { ⌜ (places ≤ 64) × Inside (now sheet) places (now index) × (now minutes ≡ replicate 1024 4096) × (length (now prices) ≡ 1024) ⌝ }
+    ensures { λ r. ⌜ LaidOut (now (sheet .entry)) places (now (index .entry)) (now (minutes .exit)) (now (prices .exit)) ⌝ }
+{
+    let mut p = 0;
+    while p < places {
+        lay_place(sheet, index[p], minutes, prices, 16 * p);
+        p += 1;
+    }
 }

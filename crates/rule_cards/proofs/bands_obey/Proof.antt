@@ -49,10 +49,12 @@ loop-again : tie.Need-loop-again Inv-loop μ-loop
 loop-again c =
     let a = c .before .before .before .before .before .before .before .before .args in
     let l = c .before .before .before .loop in
-    let test = c .before .band-obeys in
-    (omega arith, λ i j leg steps b.
-        one-more (λ (n : ℕ). RuleIf (a .latest .0) leg i j (slot (a .starts .now) 0 n)) (l .k) (l .inv .1 i j leg steps b)
-        (is-true (test .result) (RuleIf (a .latest .0) leg i j (slot (a .starts .now) 0 (l .k))) (not-false _ (c .if1 .left)) (test .ensures i j leg steps (a .bands) b (omega arith))))
+    let test = c .before .band-obeys in (
+      omega arith,
+      λ i j leg steps b.
+          one-more (λ (n : ℕ). RuleIf (a .latest .0) leg i j (slot (a .starts .now) 0 n)) (l .k) (l .inv .1 i j leg steps b)
+          (is-true (test .result) (RuleIf (a .latest .0) leg i j (slot (a .starts .now) 0 (l .k))) (not-false _ (c .if1 .left)) (test .ensures i j leg steps (a .bands) b (omega arith))),
+    )
 
 add-k : tie.Need-add-k Inv-loop μ-loop
 add-k c = search needs

@@ -49,10 +49,12 @@ loop-again : tie.Need-loop-again Inv-loop μ-loop
 loop-again c =
     let a = c .before .before .before .before .before .before .before .before .args in
     let l = c .before .before .before .loop in
-    let test = c .before .step-obeys in
-    (omega arith, λ i j leg bands b.
-        one-more (λ (n : ℕ). RuleIf (a .latest .0) leg i j (slot (a .minutes .now) (a .from) n)) (l .k) (l .inv .1 i j leg bands b)
-        (is-true (test .result) (RuleIf (a .latest .0) leg i j (slot (a .minutes .now) (a .from) (l .k))) (not-false _ (c .if1 .left)) (test .ensures i j leg (a .steps) bands b (omega arith))))
+    let test = c .before .step-obeys in (
+      omega arith,
+      λ i j leg bands b.
+          one-more (λ (n : ℕ). RuleIf (a .latest .0) leg i j (slot (a .minutes .now) (a .from) n)) (l .k) (l .inv .1 i j leg bands b)
+          (is-true (test .result) (RuleIf (a .latest .0) leg i j (slot (a .minutes .now) (a .from) (l .k))) (not-false _ (c .if1 .left)) (test .ensures i j leg (a .steps) bands b (omega arith))),
+    )
 
 add-k : tie.Need-add-k Inv-loop μ-loop
 add-k c = search needs
