@@ -17,7 +17,7 @@ use Rattle.rule_b.specs.Cursor.{shown}
 use Rattle.rule_b.proofs.Walks.{none-before}
 use Rattle.network.specs.declared.Size.{Size}
 use Rattle.gate.specs.Gate.{statedCost}
-use Rattle.gate.specs.Parts.{theoryAt, netAt, legOf, Known-file, Asked, RuleOf, Ruled}
+use Rattle.gate.specs.Parts.{theoryAt, netAt, legOf, Known-file, Asked, RuleOf, RulesOf, Ruled}
 use Rattle.gate.proofs.Net.{read, leg-sound}
 
 -- ---- the tests of one value
@@ -50,6 +50,13 @@ ruled-more net s index latest k old new l h = at (decLt l k)
     at : Dec (l < k) → RuleOf net s index latest l
     at (yes low) = old l low
     at (no n) = let same : l ≡ k = omega arith in subst (λ (x : ℕ). RuleOf net s index latest x) (sym same) new
+
+-- ---- rule (a) holds, and then the test of the legs decides
+
+pub legs-decide : (net s index : List ℕ) (legs : ℕ) (q : Query) (b : Bool) → value (placeAt s (getD index (q .start) 0)) (q .earliest) ≡ some 0
+    → Is b (RulesOf net s index (q .latest) legs) → Is b (Ruled net s index legs q)
+legs-decide net s index legs q true a b = record { a = a; b = b }
+legs-decide net s index legs q false a b = λ both. b (both .b)
 
 -- ---- both rules, of the sheet
 

@@ -81,10 +81,14 @@ abbrev pub RuleOf : List ℕ → List ℕ → List ℕ → Minute → ℕ → Ty
 RuleOf net s index latest k =
     RuleB latest (legOf net k) (placeAt s (getD index (legOf net k .from) 0)) (placeAt s (getD index (legOf net k .to) 0))
 
+-- rule (b) for the first `legs` legs
+abbrev pub RulesOf : List ℕ → List ℕ → List ℕ → Minute → ℕ → Type 0
+RulesOf net s index latest legs = (k : ℕ) → k < legs → RuleOf net s index latest k
+
 -- both rules, so
 pub record Ruled (net s index : List ℕ) (legs : ℕ) (q : Query) : Type 0 where
   pub a : value (placeAt s (getD index (q .start) 0)) (q .earliest) ≡ some 0
-  pub b : (k : ℕ) → k < legs → RuleOf net s index (q .latest) k
+  pub b : RulesOf net s index (q .latest) legs
 
 -- the window of a query, for the sheet
 abbrev pub windowOf : QueryStruct → Query

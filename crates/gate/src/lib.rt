@@ -14,8 +14,9 @@ ghost use Rattle.sheet_file.specs.InPlace.{placeAt};
 ghost use Rattle.sheet_file.specs.Window.{window};
 ghost use Rattle.rule_b.specs.Rule.{Is};
 ghost use Rattle.rule_b.specs.Cursor.{PlaceAsked};
+ghost use Rattle.rule_cards.specs.Cards.{LaidOut};
 ghost use Rattle.gate.specs.Gate.{Known, Holds, statedCost, OfSheet, OfPlan, OfFiles, GateSays};
-ghost use Rattle.gate.specs.Parts.{netAt, theoryAt, sheetAt, windowOf, Known-file, Rode, Asked, Placed, RuleOf, Ruled};
+ghost use Rattle.gate.specs.Parts.{netAt, theoryAt, sheetAt, windowOf, Known-file, Rode, Asked, Placed, RuleOf, RulesOf, Ruled};
 use answer::Answer;
 use answer::Refusal;
 use leg::Cents;
@@ -150,24 +151,77 @@ fn starts(sheet: &[u8], place: u32, earliest: Minute, latest: Minute) -> bool
     first.price.0 == 0
 }
 
-// Rule (b) for leg k.
+// Rule (b) for leg k, with the steps of the places on cards.
 fn leg_rules(
     net: &[u8],
     size: Size,
     chart: &[u32; 512],
     sheet: &[u8],
     index: &[u32; 64],
+    minutes: &[u32],
+    prices: &[u32],
     k: usize,
     earliest: Minute,
     latest: Minute,
 ) -> bool
-    requires { ⌜ Known-file (now net) size (now chart) × Placed (now sheet) (size .places) (window (earliest .0) (latest .0)) (now index) × (k < size .legs) ⌝ }
+    requires { ⌜ Known-file (now net) size (now chart) × Placed (now sheet) (size .places) (window (earliest .0) (latest .0)) (now index) × (k < size .legs)
+        × LaidOut (now sheet) (size .places) (now index) (now minutes) (now prices) ⌝ }
     ensures { λ r. ⌜ Is r (RuleOf (now (net .entry)) (now (sheet .entry)) (now (index .entry)) (latest .0) k) ⌝ }
 {
     let leg = chart[k] as usize;
     let from = reader::field(net, leg, 6) as usize;
     let to = reader::field(net, leg + 6, 6) as usize;
-    rule_b::leg_obeys(net, leg, sheet, index[from], index[to], earliest, latest)
+    rule_cards::leg_obeys(
+        net,
+        leg,
+        sheet,
+        index[from],
+        index[to],
+        minutes,
+        prices,
+        from,
+        to,
+        earliest,
+        latest,
+    )
+}
+
+// Rule (b) for every leg.
+fn legs_rule(
+    net: &[u8],
+    size: Size,
+    chart: &[u32; 512],
+    sheet: &[u8],
+    index: &[u32; 64],
+    minutes: &[u32],
+    prices: &[u32],
+    earliest: Minute,
+    latest: Minute,
+) -> bool
+    requires { ⌜ Known-file (now net) size (now chart) × Placed (now sheet) (size .places) (window (earliest .0) (latest .0)) (now index)
+        × LaidOut (now sheet) (size .places) (now index) (now minutes) (now prices) ⌝ }
+    ensures { λ r. ⌜ Is r (RulesOf (now (net .entry)) (now (sheet .entry)) (now (index .entry)) (latest .0) (size .legs)) ⌝ }
+{
+    let legs = size.legs;
+    let mut k = 0;
+    while k < legs {
+        if !leg_rules(
+            net,
+            size,
+            chart,
+            sheet,
+            index,
+            minutes,
+            prices,
+            k,
+            earliest,
+            latest,
+        ) {
+            return false;
+        }
+        k += 1;
+    }
+    true
 }
 
 // Both rules.
@@ -188,15 +242,26 @@ fn obeys(
     if !starts(sheet, index[start], earliest, latest) {
         return false;
     }
-    let legs = size.legs;
-    let mut k = 0;
-    while k < legs {
-        if !leg_rules(net, size, chart, sheet, index, k, earliest, latest) {
-            return false;
-        }
-        k += 1;
-    }
-    true
+    let mut minutes = [4096u32; 1024];
+    let mut prices = [0u32; 1024];
+    rule_cards::lay(
+        sheet,
+        index,
+        size.places as usize,
+        &mut minutes,
+        &mut prices,
+    );
+    legs_rule(
+        net,
+        size,
+        chart,
+        sheet,
+        index,
+        &minutes,
+        &prices,
+        earliest,
+        latest,
+    )
 }
 
 // Is the place's value at latest the stated cost, or is there none for "none"?

@@ -38,25 +38,25 @@ to-below c =
     let a = c .args in omega (arith, sound c .to-below, read (a .net .now) (a .size) (a .chart .now) (c .pre .0) .places)
 
 mul-leg : tie.Need-mul-leg
-mul-leg c = omega (arith, few-legs (c .before .before))
+mul-leg c = omega (arith, few-legs (c .before .before .before .before))
 
 element-copy-out-leg : tie.Need-element-copy-out-leg
-element-copy-out-leg c = omega (arith, few-legs (c .before .before))
+element-copy-out-leg c = omega (arith, few-legs (c .before .before .before .before))
 
 cast-leg : tie.Need-cast-leg
-cast-leg c = omega (arith, near (c .before .before .before))
+cast-leg c = omega (arith, near (c .before .before .before .before .before))
 
 field-requires : tie.Need-field-requires
-field-requires c κs = (omega arith, omega arith, omega (arith, stands (c .before .before .before) .inside))
+field-requires c κs = (omega arith, omega arith, omega (arith, stands (c .before .before .before .before .before) .inside))
 
 cast-from : tie.Need-cast-from
 cast-from c = search needs
 
 add-field : tie.Need-add-field
-add-field c = omega (arith, near (c .before .before .before .before))
+add-field c = omega (arith, near (c .before .before .before .before .before .before))
 
 field-requires-2 : tie.Need-field-requires-2
-field-requires-2 c κs = (omega arith, omega arith, omega (arith, stands (c .before .before .before .before) .inside))
+field-requires-2 c κs = (omega arith, omega arith, omega (arith, stands (c .before .before .before .before .before .before) .inside))
 
 cast-to : tie.Need-cast-to
 cast-to c = search needs
@@ -66,7 +66,7 @@ mul-leg-obeys c = search needs
 
 element-copy-out-leg-obeys : tie.Need-element-copy-out-leg-obeys
 element-copy-out-leg-obeys c =
-    let start = c .before .before .before .before .before in
+    let start = c .before .before .before .before .before .before .before in
     omega (arith, c .before .field .ensures, stands start .from-is, from-below start, start .pre .1 .few)
 
 mul-leg-obeys-2 : tie.Need-mul-leg-obeys-2
@@ -74,12 +74,12 @@ mul-leg-obeys-2 c = search needs
 
 element-copy-out-leg-obeys-2 : tie.Need-element-copy-out-leg-obeys-2
 element-copy-out-leg-obeys-2 c =
-    let start = c .before .before .before .before .before .before in
+    let start = c .before .before .before .before .before .before .before .before in
     omega (arith, c .before .field2 .ensures, stands start .to-is, to-below start, start .pre .1 .few)
 
 leg-obeys-requires : tie.Need-leg-obeys-requires
 leg-obeys-requires c κs =
-    let start = c .before .before .before .before .before .before .before in
+    let start = c .before .before .before .before .before .before .before .before .before in
     let same = stands start in
     let from = c .before .before .before .field in
     let to = c .before .before .field2 in (
@@ -90,11 +90,17 @@ leg-obeys-requires c κs =
         to-place = start .pre .1 .each (to .result) (omega (arith, to .ensures, same .to-is, to-below start));
         end = start .pre .1 .end;
       },
+      omega (arith, from .ensures, same .from-is, from-below start, start .pre .1 .few),
+      omega (arith, to .ensures, same .to-is, to-below start, start .pre .1 .few),
+      start .pre .3 .room,
+      start .pre .3 .price-room,
+      start .pre .3 .each (from .result) (omega (arith, from .ensures, same .from-is, from-below start)),
+      start .pre .3 .each (to .result) (omega (arith, to .ensures, same .to-is, to-below start)),
     )
 
 returns : tie.Need-returns
 returns c =
-    let start = c .before .before .before .before .before .before .before .before in
+    let start = c .before .before .before .before .before .before .before .before .before .before in
     let a = start .args in
     let s = a .sheet .now in
     let index = a .index .now in
