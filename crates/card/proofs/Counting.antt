@@ -1,7 +1,7 @@
 -- Counting the slots of a card that have begun: since none begins before the one in front of it, those counted are the first. Assumes nothing.
-use Prim.Native.Nat.{ℕ, _+_, _-_, _≤_, _<_}
+use Prim.Native.Nat.{ℕ, _+_, _-_, _/_, _≤_, _<_}
 use native.Mathlib.Omega.{arith}
-use native.Mathlib.Decide.{decLt}
+use native.Mathlib.Decide.{decLt, decLe}
 use mathlib.Core.Path.{_≡_, sym, subst}
 use mathlib.Core.List.{List}
 use Rattle.card.specs.Card.{slot, Rising, Begun}
@@ -50,3 +50,22 @@ module _ (minutes : List ℕ) (at t n k : ℕ) (h : Counted minutes at t n k) wh
 
 pub counted-all : (minutes : List ℕ) (at t n k : ℕ) → Counted minutes at t n k → k ≡ 16 → Begun minutes at t n
 counted-all minutes at t n k h e = record { few = omega (arith, h .few); before = h .before; after = λ j l m. h .after j l (omega arith) }
+
+-- what a slot adds
+pub adds-one : (t m : ℕ) → t < 4096 → m ≤ t → (4096 + t - m) / 4096 ≡ 1
+adds-one t m h l = omega arith
+
+pub adds-none : (t m : ℕ) → t < m → m ≤ 4096 → (4096 + t - m) / 4096 ≡ 0
+adds-none t m h l = omega arith
+
+-- one more slot, whether it has begun or not
+pub counted-more : (minutes : List ℕ) (at t n k : ℕ) → Counted minutes at t n k → Rising minutes at → k < 16 → t < 4096 → slot minutes at k ≤ 4096
+    → Counted minutes at t (n + (4096 + t - slot minutes at k) / 4096) (k + 1)
+counted-more minutes at t n k h rising room low within = close (decLe (slot minutes at k) t)
+  where
+    close : Dec (slot minutes at k ≤ t) → Counted minutes at t (n + (4096 + t - slot minutes at k) / 4096) (k + 1)
+    close (yes due) =
+        subst (λ (x : ℕ). Counted minutes at t (n + x) (k + 1)) (sym (adds-one t (slot minutes at k) low due)) (counted-begun minutes at t n k h rising room due)
+    close (no late) =
+        let none : n ≡ n + (4096 + t - slot minutes at k) / 4096 = omega (arith, adds-none t (slot minutes at k) (omega arith) within) in
+        subst (λ (x : ℕ). Counted minutes at t x (k + 1)) none (counted-later minutes at t n k h (omega arith))

@@ -35,6 +35,13 @@ pub record Kept (old new : List ℕ) (at : ℕ) : Type 0 where
 abbrev pub Rising : List ℕ → ℕ → Type 0
 Rising minutes at = (k : ℕ) → k + 1 < 16 → slot minutes at k ≤ slot minutes at (k + 1)
 
+-- a card can be looked at: it lies in the list, its slots rise, and none is later than never
+pub record Tidy (minutes : List ℕ) (at : ℕ) : Type 0 where
+  pub near : at ≤ 100000
+  pub room : at + 16 ≤ length minutes
+  pub rises : Rising minutes at
+  pub within : (k : ℕ) → k < 16 → slot minutes at k ≤ never
+
 -- just the first n slots have begun at minute t
 pub record Begun (minutes : List ℕ) (at t n : ℕ) : Type 0 where
   pub few : n ≤ 16

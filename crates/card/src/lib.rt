@@ -2,7 +2,7 @@
 ghost use mathlib.Core.Path.{_≡_};
 ghost use Prim.Native.Nat.{_+_, _*_, _≤_, _<_};
 ghost use lib.ListN.{length};
-ghost use Rattle.card.specs.Card.{Blank, Carded, Kept, Rising, Begun, Shows};
+ghost use Rattle.card.specs.Card.{Blank, Carded, Kept, Tidy, Begun, Shows};
 use leg::Cents;
 use leg::Minute;
 
@@ -36,26 +36,24 @@ pub fn fill(
     }
 }
 
-// How many slots have begun at a minute. No branch hangs on a slot, so that several are compared at a time.
+// How many slots have begun at a minute: each adds 1 or 0, without a branch or a test, so that several are counted at a time.
 fn begun(minutes: &[u32], at: usize, minute: Minute) -> usize
-    requires { ⌜ (at ≤ 100000) × (at + 16 ≤ length (now minutes)) × Rising (now minutes) at ⌝ }
+    requires { ⌜ Tidy (now minutes) at × (minute .0 < 4096) ⌝ }
     ensures { λ r. ⌜ Begun (now (minutes .entry)) at (minute .0) r ⌝ }
 {
     let now = minute.0;
-    let mut slots = 0;
+    let mut slots = 0u32;
     let mut k = 0;
     while k < 16 {
-        if minutes[at + k] <= now {
-            slots += 1;
-        }
+        slots += (4096 + now - minutes[at + k]) / 4096;
         k += 1;
     }
-    slots
+    slots as usize
 }
 
 // What the card from slot `at` on shows at a minute.
 pub fn look(minutes: &[u32], prices: &[u32], at: usize, minute: Minute) -> Shown
-    requires { ⌜ (at ≤ 100000) × (at + 16 ≤ length (now minutes)) × (at + 16 ≤ length (now prices)) × Rising (now minutes) at ⌝ }
+    requires { ⌜ Tidy (now minutes) at × (at + 16 ≤ length (now prices)) × (minute .0 < 4096) ⌝ }
     ensures { λ r. ⌜ Shows (now (minutes .entry)) (now (prices .entry)) at (minute .0) r ⌝ }
 {
     let slots = begun(minutes, at, minute);

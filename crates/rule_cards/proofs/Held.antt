@@ -26,7 +26,7 @@ use Rattle.rule_b.proofs.Walks.{first-none, first-some, none-before, steps-sort
 use Rattle.rule_b.proofs.InFile.{band-there}
 use Rattle.card.specs.declared.Shown.{Shown}
 use Rattle.card.specs.Card.{slot, never, Rising, Carded, Begun, Shows}
-use Rattle.rule_cards.specs.Cards.{Tidy, HoldsSteps, HoldsTolls, StepAt}
+use Rattle.rule_cards.specs.Cards.{Ready, HoldsSteps, HoldsTolls, StepAt}
 
 -- ---- any card
 
@@ -58,8 +58,8 @@ module _ (s : List ℕ) (bit width count : ℕ) (minutes prices : List ℕ) (at 
       close (no m) = omega arith
       close (yes l) = absurd (omega (arith, b .before count l, card .rest-is count (omega arith) (omega (arith, b .few))))
 
-  pub tidy : at ≤ 100000 → at + 16 ≤ length minutes → at + 16 ≤ length prices → Ordered s bit width count → Tidy minutes prices at
-  tidy near room price-room order = record { near = near; room = room; price-room = price-room; rises = slots-rise order; within = slot-within }
+  pub ready : at ≤ 100000 → at + 16 ≤ length minutes → at + 16 ≤ length prices → Ordered s bit width count → Ready minutes prices at
+  ready near room price-room order = record { card = record { near = near; room = room; rises = slots-rise order; within = slot-within }; price-room = price-room }
 
 -- ---- a place's steps
 

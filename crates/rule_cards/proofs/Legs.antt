@@ -14,9 +14,9 @@ use Rattle.sheet_file.specs.InPlace.{placeAt, countAt}
 use Rattle.rule_b.specs.Rule.{Is, RuleB, InOrder}
 use Rattle.rule_b.specs.InFile.{legAt}
 use Rattle.card.specs.Card.{slot, never, Carded}
-use Rattle.rule_cards.specs.Cards.{Tidy, Between, RuleIf, RuleAtAll, Joins}
+use Rattle.rule_cards.specs.Cards.{Ready, Between, RuleIf, RuleAtAll, Joins}
 use Rattle.rule_cards.proofs.Enough.{enough}
-use Rattle.rule_cards.proofs.Held.{tidy, place-ordered, holds-steps, step-on-card, step-slot, bands-ordered, holds-tolls, band-on-card, band-slot}
+use Rattle.rule_cards.proofs.Held.{ready, place-ordered, holds-steps, step-on-card, step-slot, bands-ordered, holds-tolls, band-on-card, band-slot}
 
 -- the steps obey, and then the test of the bands decides
 pub bands-decide : (minutes : List ℕ) (from : ℕ) (starts : List ℕ) (latest : Minute) (steps bands : ℕ) (i j : List Step) (leg : Leg) (b : Bool)
@@ -31,11 +31,11 @@ pub blank-new : (n at k : ℕ) → at + k < n → slot (replicate n never) at k 
 blank-new n at k h = getD-replicate n (at + k) never 0 h
 
 -- the leg's bands on a card of their own
-pub bands-tidy : (net : List ℕ) (at : ℕ) → InOrder (legAt net at) → (starts tolls : List ℕ) (bands : ℕ) → bands ≡ legAt net at .count
-    → Carded net (at + 28) 16 bands starts tolls 0 → length starts ≡ 16 → length tolls ≡ 16 → Tidy starts tolls 0
-bands-tidy net at order starts tolls bands e card long long′ =
+pub bands-ready : (net : List ℕ) (at : ℕ) → InOrder (legAt net at) → (starts tolls : List ℕ) (bands : ℕ) → bands ≡ legAt net at .count
+    → Carded net (at + 28) 16 bands starts tolls 0 → length starts ≡ 16 → length tolls ≡ 16 → Ready starts tolls 0
+bands-ready net at order starts tolls bands e card long long′ =
     let whole = subst (λ (n : ℕ). Carded net (at + 28) 16 n starts tolls 0) e card in
-    tidy net (at + 28) 16 (legAt net at .count) starts tolls 0 whole (omega arith) (omega arith) (omega arith) (bands-ordered net at order starts tolls whole)
+    ready net (at + 28) 16 (legAt net at .count) starts tolls 0 whole (omega arith) (omega arith) (omega arith) (bands-ordered net at order starts tolls whole)
 
 module _ (net : List ℕ) (at : ℕ) (order : InOrder (legAt net at)) (minutes prices : List ℕ) (from to steps : ℕ) (i j : List Step)
     (h : Joins minutes prices from to steps i j) (starts tolls : List ℕ) (bands time : ℕ) (bands-is : bands ≡ legAt net at .count)
@@ -62,11 +62,11 @@ module _ (net : List ℕ) (at : ℕ) (order : InOrder (legAt net at)) (minutes p
       λ rule. t (record { at-steps = λ k l d. rule (slot minutes from k) d; at-bands = λ k l d. rule (slot starts 0 k) d })
 
 -- a place's steps on a card
-pub place-tidy : (q : Query) (s : List ℕ) (place : ℕ) → Steps q (placeAt s place) → (minutes prices : List ℕ) (at : ℕ)
+pub place-ready : (q : Query) (s : List ℕ) (place : ℕ) → Steps q (placeAt s place) → (minutes prices : List ℕ) (at : ℕ)
     → Carded s (place + 12) 32 (countAt s place) minutes prices at → countAt s place ≤ 16 → at ≤ 100000 → at + 16 ≤ length minutes → at + 16 ≤ length prices
-    → Tidy minutes prices at
-place-tidy q s place steps minutes prices at card few near room price-room =
-    tidy s (place + 12) 32 (countAt s place) minutes prices at card near room price-room (place-ordered q s place steps minutes prices at card few)
+    → Ready minutes prices at
+place-ready q s place steps minutes prices at card few near room price-room =
+    ready s (place + 12) 32 (countAt s place) minutes prices at card near room price-room (place-ordered q s place steps minutes prices at card few)
 
 -- and those of two places
 pub joined : (q : Query) (s : List ℕ) (i j : ℕ) → Steps q (placeAt s i) → Steps q (placeAt s j) → (minutes prices : List ℕ) (from to steps : ℕ)

@@ -14,15 +14,12 @@ use Rattle.sheet_file.specs.InPlace.{countAt}
 use Rattle.rule_b.specs.Rule.{Is, RuleAt, RuleB}
 use Rattle.rule_b.specs.Cursor.{shown, Covers}
 use Rattle.card.specs.declared.Shown.{Shown}
-use Rattle.card.specs.Card.{slot, never, Rising, Carded, Shows}
+use Rattle.card.specs.Card.{slot, never, Carded, Tidy, Shows}
 
--- a card can be looked at: it lies in both lists, its slots rise, and none is later than never
-pub record Tidy (minutes prices : List ℕ) (at : ℕ) : Type 0 where
-  pub near : at ≤ 100000
-  pub room : at + 16 ≤ length minutes
+-- a card can be looked at, and has its cents
+pub record Ready (minutes prices : List ℕ) (at : ℕ) : Type 0 where
+  pub card : Tidy minutes at
   pub price-room : at + 16 ≤ length prices
-  pub rises : Rising minutes at
-  pub within : (k : ℕ) → k < 16 → slot minutes at k ≤ never
 
 -- what the card shows is the value that these steps have
 abbrev pub HoldsSteps : List ℕ → List ℕ → ℕ → List Step → Type 0

@@ -9,7 +9,7 @@ ghost use Rattle.sheet_file.specs.InPlace.{placeAt, countAt};
 ghost use Rattle.sheet_file.specs.Window.{window};
 ghost use mathlib.Core.Path.{_≡_};
 ghost use lib.ListN.{length, replicate};
-ghost use Rattle.rule_cards.specs.Cards.{Tidy, DepartureTested, StepTested, BandTested, StepsTested, BandsTested, AllTested, LegTested, Laid, LaidOut, Inside};
+ghost use Rattle.rule_cards.specs.Cards.{Ready, DepartureTested, StepTested, BandTested, StepsTested, BandsTested, AllTested, LegTested, Laid, LaidOut, Inside};
 use card::Shown;
 use leg::Cents;
 use leg::Minute;
@@ -33,7 +33,7 @@ fn departure_obeys(
     to: usize,
     arrival: Minute,
 ) -> bool
-    requires { ⌜ Tidy (now minutes) (now prices) to × (arrival .0 < 4096) ⌝ }
+    requires { ⌜ Ready (now minutes) (now prices) to × (arrival .0 < 4096) ⌝ }
     ensures { λ r. ⌜ DepartureTested (now (minutes .entry)) (now (prices .entry)) to (shown (from .has) (from .price .0)) (toll .0) (arrival .0) r ⌝ }
 {
     if !from.has {
@@ -55,7 +55,7 @@ fn step_obeys(
     time: Minute,
     latest: Minute,
 ) -> bool
-    requires { ⌜ Tidy (now minutes) (now prices) from × Tidy (now minutes) (now prices) to × Tidy (now starts) (now tolls) 0 × (k < 16) × (time .0 ≤ 2879) × (latest .0 ≤ 2879) ⌝ }
+    requires { ⌜ Ready (now minutes) (now prices) from × Ready (now minutes) (now prices) to × Ready (now starts) (now tolls) 0 × (k < 16) × (time .0 ≤ 2879) × (latest .0 ≤ 2879) ⌝ }
     ensures { λ r. ⌜ StepTested (now (minutes .entry)) (now (prices .entry)) from to (now (starts .entry)) (now (tolls .entry)) (time .0) (latest .0) k r ⌝ }
 {
     let departure = minutes[from + k];
@@ -84,7 +84,7 @@ fn band_obeys(
     time: Minute,
     latest: Minute,
 ) -> bool
-    requires { ⌜ Tidy (now minutes) (now prices) from × Tidy (now minutes) (now prices) to × Tidy (now starts) (now tolls) 0 × (k < 16) × (time .0 ≤ 2879) × (latest .0 ≤ 2879) ⌝ }
+    requires { ⌜ Ready (now minutes) (now prices) from × Ready (now minutes) (now prices) to × Ready (now starts) (now tolls) 0 × (k < 16) × (time .0 ≤ 2879) × (latest .0 ≤ 2879) ⌝ }
     ensures { λ r. ⌜ BandTested (now (minutes .entry)) (now (prices .entry)) from to (now (starts .entry)) (now (tolls .entry)) (time .0) (latest .0) k r ⌝ }
 {
     let departure = starts[k];
@@ -109,7 +109,7 @@ fn steps_obey(
     time: Minute,
     latest: Minute,
 ) -> bool
-    requires { ⌜ Tidy (now minutes) (now prices) from × Tidy (now minutes) (now prices) to × Tidy (now starts) (now tolls) 0 × (steps ≤ 16) × (time .0 ≤ 2879) × (latest .0 ≤ 2879) ⌝ }
+    requires { ⌜ Ready (now minutes) (now prices) from × Ready (now minutes) (now prices) to × Ready (now starts) (now tolls) 0 × (steps ≤ 16) × (time .0 ≤ 2879) × (latest .0 ≤ 2879) ⌝ }
     ensures { λ r. ⌜ StepsTested (now (minutes .entry)) (now (prices .entry)) from to (now (starts .entry)) (now (tolls .entry)) (time .0) (latest .0) steps r ⌝ }
 {
     let mut k = 0;
@@ -134,7 +134,7 @@ fn bands_obey(
     time: Minute,
     latest: Minute,
 ) -> bool
-    requires { ⌜ Tidy (now minutes) (now prices) from × Tidy (now minutes) (now prices) to × Tidy (now starts) (now tolls) 0 × (bands ≤ 16) × (time .0 ≤ 2879) × (latest .0 ≤ 2879) ⌝ }
+    requires { ⌜ Ready (now minutes) (now prices) from × Ready (now minutes) (now prices) to × Ready (now starts) (now tolls) 0 × (bands ≤ 16) × (time .0 ≤ 2879) × (latest .0 ≤ 2879) ⌝ }
     ensures { λ r. ⌜ BandsTested (now (minutes .entry)) (now (prices .entry)) from to (now (starts .entry)) (now (tolls .entry)) (time .0) (latest .0) bands r ⌝ }
 {
     let mut k = 0;
@@ -160,7 +160,7 @@ fn all_obey(
     time: Minute,
     latest: Minute,
 ) -> bool
-    requires { ⌜ Tidy (now minutes) (now prices) from × Tidy (now minutes) (now prices) to × Tidy (now starts) (now tolls) 0 × (steps ≤ 16) × (bands ≤ 16) × (time .0 ≤ 2879) × (latest .0 ≤ 2879) ⌝ }
+    requires { ⌜ Ready (now minutes) (now prices) from × Ready (now minutes) (now prices) to × Ready (now starts) (now tolls) 0 × (steps ≤ 16) × (bands ≤ 16) × (time .0 ≤ 2879) × (latest .0 ≤ 2879) ⌝ }
     ensures { λ r. ⌜ AllTested (now (minutes .entry)) (now (prices .entry)) from to (now (starts .entry)) (now (tolls .entry)) (time .0) (latest .0) steps bands r ⌝ }
 {
     if !steps_obey(
@@ -200,7 +200,7 @@ fn cards_obey(
     steps: usize,
     latest: Minute,
 ) -> bool
-    requires { ⌜ LegThere (now net) leg (legAt (now net) leg .count) × InOrder (legAt (now net) leg) × Tidy (now minutes) (now prices) from × Tidy (now minutes) (now prices) to × (steps ≤ 16) × (latest .0 ≤ 2879) ⌝ }
+    requires { ⌜ LegThere (now net) leg (legAt (now net) leg .count) × InOrder (legAt (now net) leg) × Ready (now minutes) (now prices) from × Ready (now minutes) (now prices) to × (steps ≤ 16) × (latest .0 ≤ 2879) ⌝ }
     ensures { λ r. ⌜ LegTested (now (minutes .entry)) (now (prices .entry)) from to steps (legAt (now (net .entry)) leg) (latest .0) r ⌝ }
 {
     let time = Minute(reader::field(net, leg + 12, 12));

@@ -32,10 +32,10 @@ returns-2 c i j leg steps bands b low =
     (b .i-held d (here .result) (omega (arith, soon, s .pre .5)) (here .ensures)) toll (a .latest .0) (c .departure-obeys .result) soon (c .departure-obeys .ensures j (b .j-held)))
 
 shared-slice-read-departure : tie.Need-shared-slice-read-departure
-shared-slice-read-departure c = omega (arith, c .before .before .before .before .before .pre .2 .room, c .before .before .before .before .before .pre .3)
+shared-slice-read-departure c = omega (arith, c .before .before .before .before .before .pre .2 .card .room, c .before .before .before .before .before .pre .3)
 
 add-arrival : tie.Need-add-arrival
-add-arrival c = omega (arith, slot-first (c .before .before .before .before .before .before .args .starts .now) (c .before .before .before .before .before .before .args .k), c .before .before .before .before .before .before .pre .2 .within (c .before .before .before .before .before .before .args .k) (c .before .before .before .before .before .before .pre .3), c .before .before .before .before .before .before .pre .4)
+add-arrival c = omega (arith, slot-first (c .before .before .before .before .before .before .args .starts .now) (c .before .before .before .before .before .before .args .k), c .before .before .before .before .before .before .pre .2 .card .within (c .before .before .before .before .before .before .args .k) (c .before .before .before .before .before .before .pre .3), c .before .before .before .before .before .before .pre .4)
 
 shared-slice-read-toll : tie.Need-shared-slice-read-toll
 shared-slice-read-toll c = omega (arith, c .before .before .before .before .before .before .before .before .before .pre .2 .price-room, c .before .before .before .before .before .before .before .before .before .pre .3)
@@ -43,7 +43,7 @@ shared-slice-read-toll c = omega (arith, c .before .before .before .before .befo
 look-requires : tie.Need-look-requires
 look-requires c κs =
     let card = c .before .before .before .before .before .before .before .before .before .pre .0 in
-    (card .near, card .room, card .price-room, card .rises)
+    (card .card, card .price-room, omega (arith, c .before .if1 .left, c .before .before .before .before .before .before .before .before .before .pre .5))
 
 departure-obeys-requires : tie.Need-departure-obeys-requires
 departure-obeys-requires c κs = (c .before .before .before .before .before .before .before .before .before .before .pre .1, omega (arith, c .before .before .if1 .left, c .before .before .before .before .before .before .before .before .before .before .pre .5))

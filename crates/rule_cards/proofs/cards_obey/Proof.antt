@@ -3,7 +3,7 @@ use borrow.Author.Needs.{needs}
 use Prim.Native.Nat.{ℕ, _+_, _*_, _≤_, _<_}
 use native.Mathlib.Omega.{arith}
 use Rattle.rule_b.specs.InFile.{legAt}
-use Rattle.rule_cards.proofs.Legs.{blank-new, bands-tidy, between, leg-tested}
+use Rattle.rule_cards.proofs.Legs.{blank-new, bands-ready, between, leg-tested}
 use Rattle.rule_cards.proofs.cards_obey.Statement.{statement}
 use Rattle.rule_cards.proofs.cards_obey.Tie as tie
 
@@ -47,8 +47,8 @@ all-obey-requires c κs =
     let bands = c .before .before .before .before .before .before .before .field2 in
     let time = c .before .before .before .before .before .before .before .before .field in
     let fill = c .before .before .before .before .fill in
-    let tidy = bands-tidy (a .net .now) (a .leg) (h .1) _ _ (bands .result) (bands .ensures) (fill .ensures .0) (fill .ensures .1 .size) (fill .ensures .2 .size) in
-    (h .2, h .3, tidy, h .4, omega (arith, h .0 .few, bands .ensures), omega (arith, h .1 .time-within, time .ensures), h .5)
+    let ready = bands-ready (a .net .now) (a .leg) (h .1) _ _ (bands .result) (bands .ensures) (fill .ensures .0) (fill .ensures .1 .size) (fill .ensures .2 .size) in
+    (h .2, h .3, ready, h .4, omega (arith, h .0 .few, bands .ensures), omega (arith, h .1 .time-within, time .ensures), h .5)
 
 cast-bands : tie.Need-cast-bands
 cast-bands c = search needs

@@ -23,7 +23,7 @@ returns-2 c j held =
 look-requires : tie.Need-look-requires
 look-requires c κs =
     let card = c .before .before .before .before .pre .0 in
-    (card .near, card .room, card .price-room, card .rises)
+    (card .card, card .price-room, c .before .before .before .before .pre .1)
 
 covered-requires : tie.Need-covered-requires
 covered-requires c κs = search needs

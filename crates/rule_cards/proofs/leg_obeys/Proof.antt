@@ -4,7 +4,7 @@ use Prim.Native.Nat.{ℕ, _+_, _*_, _≤_, _<_}
 use native.Mathlib.Omega.{arith}
 use Rattle.sheet_file.specs.InPlace.{placeAt, countAt}
 use Rattle.sheet_file.specs.Window.{window}
-use Rattle.rule_cards.proofs.Legs.{place-tidy, joined}
+use Rattle.rule_cards.proofs.Legs.{place-ready, joined}
 use Rattle.rule_cards.proofs.leg_obeys.Statement.{statement}
 use Rattle.rule_cards.proofs.leg_obeys.Tie as tie
 
@@ -48,8 +48,8 @@ cards-obey-requires c κs =
     let q = window (a .earliest .0) (a .latest .0) in (
       h .0,
       h .1 .order,
-      place-tidy q (a .sheet .now) (a .i) (h .1 .from-place .steps) (a .minutes .now) (a .prices .now) (16 * a .from) (h .6 i-few) i-few (omega (arith, h .2)) (omega (arith, h .2, h .4)) (omega (arith, h .2, h .5)),
-      place-tidy q (a .sheet .now) (a .j) (h .1 .to-place .steps) (a .minutes .now) (a .prices .now) (16 * a .to) (h .7 j-few) j-few (omega (arith, h .3)) (omega (arith, h .3, h .4)) (omega (arith, h .3, h .5)),
+      place-ready q (a .sheet .now) (a .i) (h .1 .from-place .steps) (a .minutes .now) (a .prices .now) (16 * a .from) (h .6 i-few) i-few (omega (arith, h .2)) (omega (arith, h .2, h .4)) (omega (arith, h .2, h .5)),
+      place-ready q (a .sheet .now) (a .j) (h .1 .to-place .steps) (a .minutes .now) (a .prices .now) (16 * a .to) (h .7 j-few) j-few (omega (arith, h .3)) (omega (arith, h .3, h .4)) (omega (arith, h .3, h .5)),
       omega (arith, most .0, c .if1 .left),
       h .1 .end,
     )

@@ -25,16 +25,16 @@ returns-2 c i j leg steps bands b low =
     (b .leg-held d (toll .result) (omega (arith, soon, s .pre .5)) (toll .ensures)) (a .latest .0) (c .departure-obeys .result) soon (c .departure-obeys .ensures j (b .j-held))
 
 add-departure : tie.Need-add-departure
-add-departure c = omega (arith, c .before .before .before .before .pre .0 .near, c .before .before .before .before .pre .3)
+add-departure c = omega (arith, c .before .before .before .before .pre .0 .card .near, c .before .before .before .before .pre .3)
 
 shared-slice-read-departure : tie.Need-shared-slice-read-departure
-shared-slice-read-departure c = omega (arith, c .before .before .before .before .before .pre .0 .room, c .before .before .before .before .before .pre .3)
+shared-slice-read-departure c = omega (arith, c .before .before .before .before .before .pre .0 .card .room, c .before .before .before .before .before .pre .3)
 
 add-arrival : tie.Need-add-arrival
-add-arrival c = omega (arith, c .before .before .before .before .before .before .pre .0 .within (c .before .before .before .before .before .before .args .k) (c .before .before .before .before .before .before .pre .3), c .before .before .before .before .before .before .pre .4)
+add-arrival c = omega (arith, c .before .before .before .before .before .before .pre .0 .card .within (c .before .before .before .before .before .before .args .k) (c .before .before .before .before .before .before .pre .3), c .before .before .before .before .before .before .pre .4)
 
 add-price : tie.Need-add-price
-add-price c = omega (arith, c .before .before .before .before .before .before .before .before .pre .0 .near, c .before .before .before .before .before .before .before .before .pre .3)
+add-price c = omega (arith, c .before .before .before .before .before .before .before .before .pre .0 .card .near, c .before .before .before .before .before .before .before .before .pre .3)
 
 shared-slice-read-price : tie.Need-shared-slice-read-price
 shared-slice-read-price c = omega (arith, c .before .before .before .before .before .before .before .before .before .pre .0 .price-room, c .before .before .before .before .before .before .before .before .before .pre .3)
@@ -42,7 +42,7 @@ shared-slice-read-price c = omega (arith, c .before .before .before .before .bef
 look-requires : tie.Need-look-requires
 look-requires c κs =
     let card = c .before .before .before .before .before .before .before .before .before .pre .2 in
-    (card .near, card .room, card .price-room, card .rises)
+    (card .card, card .price-room, omega (arith, c .before .if1 .left, c .before .before .before .before .before .before .before .before .before .pre .5))
 
 departure-obeys-requires : tie.Need-departure-obeys-requires
 departure-obeys-requires c κs = (c .before .before .before .before .before .before .before .before .before .before .pre .1, omega (arith, c .before .before .if1 .left, c .before .before .before .before .before .before .before .before .before .before .pre .5))
