@@ -676,8 +676,8 @@ fn judge_sheet<'a>(file: &'a [u8], places: usize, query: &Query) -> Option<Steps
     clean_tail(file, at).then_some(steps)
 }
 
-/// Rule (b) along one leg, at the steps of its from-place and at its band starts.
-fn leg_obeys(leg: &Leg, steps: &Steps, latest: usize) -> bool {
+/// Rule (b) along one leg, at the steps of its from-place and at its band starts, by a walk along all of them.
+fn leg_walks(leg: &Leg, steps: &Steps, latest: usize) -> bool {
     let (from, to, time) = (leg.from as usize, leg.to as usize, leg.time as usize);
     let (count, bands) = (steps.count[from], leg.bands as usize);
     if count == 0 {
@@ -713,6 +713,75 @@ fn leg_obeys(leg: &Leg, steps: &Steps, latest: usize) -> bool {
             value = next_step.1;
         }
     }
+}
+
+/// How many slots a card has.
+const SLOTS: usize = 16;
+/// The minute of a slot that is not taken.
+const NEVER: u32 = 4_096;
+
+/// Sixteen slots of minutes and cents: the steps of a place, or the bands of a leg.
+#[derive(Clone, Copy)]
+struct Card {
+    minutes: [u32; SLOTS],
+    prices: [u32; SLOTS],
+}
+
+const BLANK: Card = Card { minutes: [NEVER; SLOTS], prices: [0; SLOTS] };
+
+impl Card {
+    /// How many slots have begun: each adds 1 or 0, without a branch.
+    #[inline(always)]
+    fn begun(&self, minute: u32) -> usize {
+        self.minutes.iter().map(|&slot| (NEVER + minute - slot) / NEVER).sum::<u32>() as usize
+    }
+
+    /// The cents of the last slot that has begun.
+    #[inline(always)]
+    fn look(&self, minute: u32) -> Option<u64> {
+        self.begun(minute).checked_sub(1).map(|last| u64::from(self.prices[last % SLOTS]))
+    }
+}
+
+/// A card for each place whose steps it has room for.
+fn lay(steps: &Steps, places: usize) -> [Card; 64] {
+    let mut cards = [BLANK; 64];
+    for (place, card) in cards[..places].iter_mut().enumerate() {
+        if steps.count[place] <= SLOTS {
+            for k in 0..steps.count[place] {
+                let (minute, cost) = steps.step(place, k);
+                card.minutes[k % SLOTS] = minute as u32;
+                card.prices[k % SLOTS] = cost as u32;
+            }
+        }
+    }
+    cards
+}
+
+/// Rule (b) along one leg: by cards where they have room for the steps of both places.
+fn leg_obeys(leg: &Leg, steps: &Steps, cards: &[Card; 64], latest: usize) -> bool {
+    let (from, to) = (leg.from as usize, leg.to as usize);
+    if steps.count[from].max(steps.count[to]) > SLOTS {
+        return leg_walks(leg, steps, latest);
+    }
+    let mut bands = BLANK;
+    for k in 0..leg.bands as usize {
+        bands.minutes[k] = u32::from(leg.starts[k]);
+        bands.prices[k] = u32::from(leg.tolls[k]);
+    }
+    let (here, there, time) = (&cards[from % 64], &cards[to % 64], u32::from(leg.time));
+    let late = |departure: u32| (departure + time) as usize > latest;
+    let covered = |departure: u32, need: u64| there.look(departure + time).is_some_and(|value| value <= need);
+    let steps_obey = (0..steps.count[from]).all(|k| {
+        let departure = here.minutes[k % SLOTS];
+        let toll = || bands.look(departure).unwrap_or(0);
+        late(departure) || covered(departure, u64::from(here.prices[k % SLOTS]) + toll())
+    });
+    steps_obey
+        && (0..leg.bands as usize).all(|k| {
+            let (departure, toll) = (bands.minutes[k % SLOTS], u64::from(bands.prices[k % SLOTS]));
+            late(departure) || here.look(departure).is_none_or(|value| covered(departure, value + toll))
+        })
 }
 
 /// A plan file that was judged.
@@ -780,7 +849,8 @@ pub fn gate(net: &[u8], plan: &[u8], sheet: &[u8]) -> u32 {
     if steps.count[start] == 0 || steps.step(start, 0) != (query.earliest as usize, 0) {
         return 14;
     }
-    if !net.legs().iter().all(|leg| leg_obeys(leg, &steps, query.latest as usize)) {
+    let cards = lay(&steps, net.places);
+    if !net.legs().iter().all(|leg| leg_obeys(leg, &steps, &cards, query.latest as usize)) {
         return 14;
     }
     let end = query.end as usize;

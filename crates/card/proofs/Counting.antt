@@ -25,8 +25,8 @@ module _ (minutes : List ℕ) (at t n k : ℕ) (h : Counted minutes at t n k) wh
       at-slot j l (no high) m = let same : j ≡ k = omega arith in subst (λ (x : ℕ). t < slot minutes at x) (sym same) late
 
   -- one more that has begun: then all in front of it have
-  pub counted-begun : Rising minutes at → k < 16 → slot minutes at k ≤ t → Counted minutes at t (n + 1) (k + 1)
-  counted-begun rising room due = record {
+  pub counted-begun : (size : ℕ) → Rising minutes at size → k < size → slot minutes at k ≤ t → Counted minutes at t (n + 1) (k + 1)
+  counted-begun size rising room due = record {
     few = omega (arith, all);
     before = λ j l. at-slot j (decLt j n) l;
     after = λ j l m. absurd (omega (arith, all));
@@ -48,8 +48,8 @@ module _ (minutes : List ℕ) (at t n k : ℕ) (h : Counted minutes at t n k) wh
       at-slot j (yes low) l = h .before j low
       at-slot j (no high) l = let same : j ≡ k = omega (arith, all) in subst (λ (x : ℕ). slot minutes at x ≤ t) (sym same) due
 
-pub counted-all : (minutes : List ℕ) (at t n k : ℕ) → Counted minutes at t n k → k ≡ 16 → Begun minutes at t n
-counted-all minutes at t n k h e = record { few = omega (arith, h .few); before = h .before; after = λ j l m. h .after j l (omega arith) }
+pub counted-all : (minutes : List ℕ) (at size t n k : ℕ) → Counted minutes at t n k → k ≡ size → Begun minutes at size t n
+counted-all minutes at size t n k h e = record { few = omega (arith, h .few); before = h .before; after = λ j l m. h .after j l (omega arith) }
 
 -- what a slot adds
 pub adds-one : (t m : ℕ) → t < 4096 → m ≤ t → (4096 + t - m) / 4096 ≡ 1
@@ -59,13 +59,13 @@ pub adds-none : (t m : ℕ) → t < m → m ≤ 4096 → (4096 + t - m) / 4096 �
 adds-none t m h l = omega arith
 
 -- one more slot, whether it has begun or not
-pub counted-more : (minutes : List ℕ) (at t n k : ℕ) → Counted minutes at t n k → Rising minutes at → k < 16 → t < 4096 → slot minutes at k ≤ 4096
+pub counted-more : (minutes : List ℕ) (at size t n k : ℕ) → Counted minutes at t n k → Rising minutes at size → k < size → t < 4096 → slot minutes at k ≤ 4096
     → Counted minutes at t (n + (4096 + t - slot minutes at k) / 4096) (k + 1)
-counted-more minutes at t n k h rising room low within = close (decLe (slot minutes at k) t)
+counted-more minutes at size t n k h rising room low within = close (decLe (slot minutes at k) t)
   where
     close : Dec (slot minutes at k ≤ t) → Counted minutes at t (n + (4096 + t - slot minutes at k) / 4096) (k + 1)
     close (yes due) =
-        subst (λ (x : ℕ). Counted minutes at t (n + x) (k + 1)) (sym (adds-one t (slot minutes at k) low due)) (counted-begun minutes at t n k h rising room due)
+        subst (λ (x : ℕ). Counted minutes at t (n + x) (k + 1)) (sym (adds-one t (slot minutes at k) low due)) (counted-begun minutes at t n k h size rising room due)
     close (no late) =
         let none : n ≡ n + (4096 + t - slot minutes at k) / 4096 = omega (arith, adds-none t (slot minutes at k) (omega arith) within) in
         subst (λ (x : ℕ). Counted minutes at t x (k + 1)) none (counted-later minutes at t n k h (omega arith))

@@ -34,32 +34,32 @@ use Rattle.rule_cards.specs.Cards.{Ready, HoldsSteps, HoldsTolls, StepAt
 abbrev pub Ordered : List ℕ → ℕ → ℕ → ℕ → Type 0
 Ordered s bit width count = (k : ℕ) → k + 1 < count → field s (bit + k * (12 + width)) 12 < field s (bit + (k + 1) * (12 + width)) 12
 
-module _ (s : List ℕ) (bit width count : ℕ) (minutes prices : List ℕ) (at : ℕ) (card : Carded s bit width count minutes prices at) where
+module _ (s : List ℕ) (bit width count size : ℕ) (minutes prices : List ℕ) (at : ℕ) (card : Carded s bit width count size minutes prices at) where
   -- a slot is never later than never
-  pub slot-within : (k : ℕ) → k < 16 → slot minutes at k ≤ never
+  pub slot-within : (k : ℕ) → k < size → slot minutes at k ≤ never
   slot-within k h = close (decLt k count)
     where
       close : Dec (k < count) → slot minutes at k ≤ never
-      close (yes l) = omega (arith, card .minute-is k l, field-below s (bit + k * (12 + width)) 12)
-      close (no n) = omega (arith, card .rest-is k (omega arith) h)
+      close (yes l) = omega (arith, card .written .minute-is k l, field-below s (bit + k * (12 + width)) 12)
+      close (no n) = omega (arith, card .rest k (omega arith) h)
 
-  pub slots-rise : Ordered s bit width count → Rising minutes at
+  pub slots-rise : Ordered s bit width count → Rising minutes at size
   slots-rise order k h = close (decLt (k + 1) count)
     where
       close : Dec (k + 1 < count) → slot minutes at k ≤ slot minutes at (k + 1)
-      close (yes l) = omega (arith, card .minute-is k (omega arith), card .minute-is (k + 1) l, order k l)
-      close (no n) = omega (arith, slot-within k (omega arith), card .rest-is (k + 1) (omega arith) h)
+      close (yes l) = omega (arith, card .written .minute-is k (omega arith), card .written .minute-is (k + 1) l, order k l)
+      close (no n) = omega (arith, slot-within k (omega arith), card .rest (k + 1) (omega arith) h)
 
   -- a slot that has begun is one of those that were filled
-  pub begun-few : (t n : ℕ) → count ≤ 16 → t < never → Begun minutes at t n → n ≤ count
-  begun-few t n few h b = close (decLt count n)
+  pub begun-few : (t n : ℕ) → t < never → Begun minutes at size t n → n ≤ count
+  begun-few t n h b = close (decLt count n)
     where
       close : Dec (count < n) → n ≤ count
       close (no m) = omega arith
-      close (yes l) = absurd (omega (arith, b .before count l, card .rest-is count (omega arith) (omega (arith, b .few))))
+      close (yes l) = absurd (omega (arith, b .before count l, card .rest count (omega arith) (omega (arith, b .few))))
 
-  pub ready : at ≤ 100000 → at + 16 ≤ length minutes → at + 16 ≤ length prices → Ordered s bit width count → Ready minutes prices at
-  ready near room price-room order = record { card = record { near = near; room = room; rises = slots-rise order; within = slot-within }; price-room = price-room }
+  pub ready : at ≤ 100000 → size ≤ 16 → at + size ≤ length minutes → at + size ≤ length prices → Ordered s bit width count → Ready minutes prices at size
+  ready near small room price-room order = record { card = record { near = near; small = small; room = room; rises = slots-rise order; within = slot-within }; price-room = price-room }
 
 -- ---- a place's steps
 
@@ -125,7 +125,7 @@ ordered-up s bit width count order i (suc d) h =
     rw e (omega (arith, ordered-up s bit width count order i d (omega arith), order (i + d) (omega arith)))
 
 module _ (q : Query) (s : List ℕ) (place : ℕ) (steps : Steps q (placeAt s place)) (minutes prices : List ℕ) (at : ℕ)
-    (card : Carded s (place + 12) 32 (countAt s place) minutes prices at) (few : countAt s place ≤ 16) where
+    (card : Carded s (place + 12) 32 (countAt s place) 16 minutes prices at) where
   sorted : Sorted q (placeAt s place)
   sorted = steps-sorted q (placeAt s place) steps
 
@@ -137,13 +137,13 @@ module _ (q : Query) (s : List ℕ) (place : ℕ) (steps : Steps q (placeAt s pl
   holds-steps t r low shows = close (shows .slots) refl
     where
       n-few : shows .slots ≤ countAt s place
-      n-few = begun-few s (place + 12) 32 (countAt s place) minutes prices at card t (shows .slots) few low (shows .begun)
+      n-few = begun-few s (place + 12) 32 (countAt s place) 16 minutes prices at card t (shows .slots) low (shows .begun)
 
       value-is : value (placeAt s place) t ≡ lastOf s (place + 12) (shows .slots)
       value-is =
           value-begun q s t (shows .slots) (place + 12) (countAt s place) low n-few sorted
-          (λ k h. omega (arith, shows .begun .before k h, card .minute-is k (omega (arith, n-few))))
-          (λ h. omega (arith, shows .begun .after (shows .slots) (omega arith) (omega (arith, few)), card .minute-is (shows .slots) h))
+          (λ k h. omega (arith, shows .begun .before k h, card .written .minute-is k (omega (arith, n-few))))
+          (λ h. omega (arith, shows .begun .after (shows .slots) (omega arith) (omega (arith, card .few)), card .written .minute-is (shows .slots) h))
 
       close : (n : ℕ) → shows .slots ≡ n → value (placeAt s place) t ≡ shown (r .has) (r .price .0)
       close zero e =
@@ -152,7 +152,7 @@ module _ (q : Query) (s : List ℕ) (place : ℕ) (steps : Steps q (placeAt s pl
       close (suc m) e =
           let one : suc m ≡ m + 1 = omega arith in
           let (is-value, price) = shows .last m (e ∙ one) in
-          let same = card .price-is m (omega (arith, n-few, e)) in
+          let same = card .written .price-is m (omega (arith, n-few, e)) in
           value-is ∙ ap (lastOf s (place + 12)) e
           ∙ ap₂ (λ b (x : ℕ). shown b x) (sym is-value) (sym (price ∙ same))
 
@@ -160,17 +160,17 @@ module _ (q : Query) (s : List ℕ) (place : ℕ) (steps : Steps q (placeAt s pl
   pub step-on-card : (k : ℕ) → k < countAt s place → value (placeAt s place) (slot minutes at k) ≡ some (slot prices at k)
   step-on-card k h =
       let t = slot minutes at k in
-      let is = card .minute-is k h in
+      let is = card .written .minute-is k h in
       let next : k + 1 ≡ suc k = omega arith in
       value-begun q s t (suc k) (place + 12) (countAt s place) (omega (arith, is, field-below s (place + 12 + k * 44) 12)) (omega arith) sorted
       (λ m l. earlier m (omega arith)) (λ l. omega (arith, is, subst (λ (n : ℕ). field s (place + 12 + k * 44) 12 < field s (place + 12 + n * 44) 12) next (place-ordered k (omega arith))))
-      ∙ ap some (sym (card .price-is k h))
+      ∙ ap some (sym (card .written .price-is k h))
     where
       earlier : (m : ℕ) → m ≤ k → field s (place + 12 + m * 44) 12 ≤ slot minutes at k
       earlier m l =
           let e : m + (k - m) ≡ k = omega arith in
           let up = ordered-up s (place + 12) 32 (countAt s place) place-ordered m (k - m) (omega (arith, e)) in
-          omega (arith, card .minute-is k h, subst (λ (n : ℕ). field s (place + 12 + m * 44) 12 ≤ field s (place + 12 + n * 44) 12) e up)
+          omega (arith, card .written .minute-is k h, subst (λ (n : ℕ). field s (place + 12 + m * 44) 12 ≤ field s (place + 12 + n * 44) 12) e up)
 
 -- which step of how many has a minute
 step-number : (s : List ℕ) (bit count : ℕ) (m : Minute) → StepAt (stepsAt s bit count) m → (k : ℕ) × (k < count) × (m ≡ field s (bit + k * 44) 12)
@@ -181,11 +181,11 @@ step-number s bit (suc count) m (inr h) =
     let (k, low, e) = step-number s (bit + 44) count m h in
     (suc k, omega arith, let same : bit + 44 + k * 44 ≡ bit + suc k * 44 = omega arith in e ∙ ap (λ (p : ℕ). field s p 12) same)
 
-pub step-slot : (s : List ℕ) (place : ℕ) (minutes prices : List ℕ) (at : ℕ) → Carded s (place + 12) 32 (countAt s place) minutes prices at
+pub step-slot : (s : List ℕ) (place : ℕ) (minutes prices : List ℕ) (at : ℕ) → Carded s (place + 12) 32 (countAt s place) 16 minutes prices at
     → (m : Minute) → StepAt (placeAt s place) m → (k : ℕ) × (k < countAt s place) × (m ≡ slot minutes at k)
 step-slot s place minutes prices at card m h =
     let (k, low, e) = step-number s (place + 12) (countAt s place) m h in
-    (k, low, e ∙ sym (card .minute-is k low))
+    (k, low, e ∙ sym (card .written .minute-is k low))
 
 -- ---- a leg's bands
 
@@ -198,22 +198,22 @@ tolls-later bands t n (suc m) late =
     ∙ tolls-later bands t n m (λ k l h. late k l (omega arith))
 
 module _ (s : List ℕ) (at : ℕ) (order : InOrder (legAt s at)) (starts tolls : List ℕ)
-    (card : Carded s (at + 28) 16 (legAt s at .count) starts tolls 0) where
+    (card : Carded s (at + 28) 16 (legAt s at .count) 8 starts tolls 0) where
   start-is : (k : ℕ) → k < legAt s at .count → getD (legAt s at .bands) k noBand .start .0 ≡ slot starts 0 k
   start-is k h =
       let e : at + 28 + 28 * k ≡ at + 28 + k * (12 + 16) = omega arith in
       ap (λ (b : Band). b .start .0) (band-there s (at + 28) (legAt s at .count) k h)
-      ∙ ap (λ (p : ℕ). field s p 12) e ∙ sym (card .minute-is k h)
+      ∙ ap (λ (p : ℕ). field s p 12) e ∙ sym (card .written .minute-is k h)
 
   toll-is : (k : ℕ) → k < legAt s at .count → getD (legAt s at .bands) k noBand .toll .0 ≡ slot tolls 0 k
   toll-is k h =
       let e : at + 28 + 28 * k + 12 ≡ at + 28 + k * (12 + 16) + 12 = omega arith in
       ap (λ (b : Band). b .toll .0) (band-there s (at + 28) (legAt s at .count) k h)
-      ∙ ap (λ (p : ℕ). field s p 16) e ∙ sym (card .price-is k h)
+      ∙ ap (λ (p : ℕ). field s p 16) e ∙ sym (card .written .price-is k h)
 
   pub bands-ordered : Ordered s (at + 28) 16 (legAt s at .count)
   bands-ordered k h =
-      omega (arith, order .rises k h, start-is k (omega arith), start-is (k + 1) h, card .minute-is k (omega arith), card .minute-is (k + 1) h)
+      omega (arith, order .rises k h, start-is k (omega arith), start-is (k + 1) h, card .written .minute-is k (omega arith), card .written .minute-is (k + 1) h)
 
   -- the toll where just the first n bands have begun
   toll-begun-at : (t n : ℕ) → n + 1 ≤ legAt s at .count → slot starts 0 n ≤ t → ((k : ℕ) → n + 1 ≤ k → k < legAt s at .count → t < slot starts 0 k)
@@ -231,7 +231,7 @@ module _ (s : List ℕ) (at : ℕ) (order : InOrder (legAt s at)) (starts tolls 
   holds-tolls t r low shows = close (shows .slots) refl
     where
       n-few : shows .slots ≤ legAt s at .count
-      n-few = begun-few s (at + 28) 16 (legAt s at .count) starts tolls 0 card t (shows .slots) (omega (arith, order .few-bands)) low (shows .begun)
+      n-few = begun-few s (at + 28) 16 (legAt s at .count) 8 starts tolls 0 card t (shows .slots) low (shows .begun)
 
       close : (n : ℕ) → shows .slots ≡ n → tollAt (legAt s at) t ≡ r .price .0
       close zero e =
@@ -254,8 +254,8 @@ module _ (s : List ℕ) (at : ℕ) (order : InOrder (legAt s at)) (starts tolls 
       let up = ordered-up s (at + 28) 16 (legAt s at .count) bands-ordered (k + 1) (m - (k + 1)) (omega (arith, e)) in
       omega (
         arith,
-        card .minute-is k h,
-        card .minute-is m low,
+        card .written .minute-is k h,
+        card .written .minute-is m low,
         bands-ordered k (omega arith),
         subst (λ (n : ℕ). field s (at + 28 + (k + 1) * (12 + 16)) 12 ≤ field s (at + 28 + n * (12 + 16)) 12) e up,
       ))

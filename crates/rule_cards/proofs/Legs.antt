@@ -13,7 +13,8 @@ use Rattle.plan.specs.Sheet.{Step, Steps}
 use Rattle.sheet_file.specs.InPlace.{placeAt, countAt}
 use Rattle.rule_b.specs.Rule.{Is, RuleB, InOrder}
 use Rattle.rule_b.specs.InFile.{legAt}
-use Rattle.card.specs.Card.{slot, never, Carded}
+use Rattle.card.specs.Card.{slot, never, Written, Kept, Carded}
+use Rattle.card.proofs.Filling.{carded}
 use Rattle.rule_cards.specs.Cards.{Ready, Between, RuleIf, RuleAtAll, Joins}
 use Rattle.rule_cards.proofs.Enough.{enough}
 use Rattle.rule_cards.proofs.Held.{ready, place-ordered, holds-steps, step-on-card, step-slot, bands-ordered, holds-tolls, band-on-card, band-slot}
@@ -30,18 +31,23 @@ bands-decide minutes from starts latest steps bands i j leg false s t = λ all. 
 pub blank-new : (n at k : ℕ) → at + k < n → slot (replicate n never) at k ≡ never
 blank-new n at k h = getD-replicate n (at + k) never 0 h
 
+pub new-card : (s : List ℕ) (bit width count : ℕ) (minutes prices : List ℕ) → count ≤ 8 → Written s bit width count minutes prices 0
+    → Kept (replicate 8 never) minutes 0 count → Carded s bit width count 8 minutes prices 0
+new-card s bit width count minutes prices few written kept =
+    carded s bit width count 8 (replicate 8 never) minutes prices 0 few (λ k l. blank-new 8 0 k (omega arith)) written kept
+
 -- the leg's bands on a card of their own
 pub bands-ready : (net : List ℕ) (at : ℕ) → InOrder (legAt net at) → (starts tolls : List ℕ) (bands : ℕ) → bands ≡ legAt net at .count
-    → Carded net (at + 28) 16 bands starts tolls 0 → length starts ≡ 16 → length tolls ≡ 16 → Ready starts tolls 0
+    → Carded net (at + 28) 16 bands 8 starts tolls 0 → length starts ≡ 8 → length tolls ≡ 8 → Ready starts tolls 0 8
 bands-ready net at order starts tolls bands e card long long′ =
-    let whole = subst (λ (n : ℕ). Carded net (at + 28) 16 n starts tolls 0) e card in
-    ready net (at + 28) 16 (legAt net at .count) starts tolls 0 whole (omega arith) (omega arith) (omega arith) (bands-ordered net at order starts tolls whole)
+    let whole = subst (λ (n : ℕ). Carded net (at + 28) 16 n 8 starts tolls 0) e card in
+    ready net (at + 28) 16 (legAt net at .count) 8 starts tolls 0 whole (omega arith) (omega arith) (omega arith) (omega arith) (bands-ordered net at order starts tolls whole)
 
 module _ (net : List ℕ) (at : ℕ) (order : InOrder (legAt net at)) (minutes prices : List ℕ) (from to steps : ℕ) (i j : List Step)
     (h : Joins minutes prices from to steps i j) (starts tolls : List ℕ) (bands time : ℕ) (bands-is : bands ≡ legAt net at .count)
-    (time-is : time ≡ field net (at + 12) 12) (card : Carded net (at + 28) 16 bands starts tolls 0) where
-  whole-card : Carded net (at + 28) 16 (legAt net at .count) starts tolls 0
-  whole-card = subst (λ (n : ℕ). Carded net (at + 28) 16 n starts tolls 0) bands-is card
+    (time-is : time ≡ field net (at + 12) 12) (card : Carded net (at + 28) 16 bands 8 starts tolls 0) where
+  whole-card : Carded net (at + 28) 16 (legAt net at .count) 8 starts tolls 0
+  whole-card = subst (λ (n : ℕ). Carded net (at + 28) 16 n 8 starts tolls 0) bands-is card
 
   pub between : Between minutes prices from to starts tolls steps bands time i j (legAt net at)
   between = record {
@@ -63,20 +69,20 @@ module _ (net : List ℕ) (at : ℕ) (order : InOrder (legAt net at)) (minutes p
 
 -- a place's steps on a card
 pub place-ready : (q : Query) (s : List ℕ) (place : ℕ) → Steps q (placeAt s place) → (minutes prices : List ℕ) (at : ℕ)
-    → Carded s (place + 12) 32 (countAt s place) minutes prices at → countAt s place ≤ 16 → at ≤ 100000 → at + 16 ≤ length minutes → at + 16 ≤ length prices
-    → Ready minutes prices at
-place-ready q s place steps minutes prices at card few near room price-room =
-    ready s (place + 12) 32 (countAt s place) minutes prices at card near room price-room (place-ordered q s place steps minutes prices at card few)
+    → Carded s (place + 12) 32 (countAt s place) 16 minutes prices at → at ≤ 100000 → at + 16 ≤ length minutes → at + 16 ≤ length prices
+    → Ready minutes prices at 16
+place-ready q s place steps minutes prices at card near room price-room =
+    ready s (place + 12) 32 (countAt s place) 16 minutes prices at card near (omega arith) room price-room (place-ordered q s place steps minutes prices at card)
 
 -- and those of two places
 pub joined : (q : Query) (s : List ℕ) (i j : ℕ) → Steps q (placeAt s i) → Steps q (placeAt s j) → (minutes prices : List ℕ) (from to steps : ℕ)
-    → Carded s (i + 12) 32 (countAt s i) minutes prices from → Carded s (j + 12) 32 (countAt s j) minutes prices to
-    → countAt s i ≤ 16 → countAt s j ≤ 16 → steps ≡ countAt s i
+    → Carded s (i + 12) 32 (countAt s i) 16 minutes prices from → Carded s (j + 12) 32 (countAt s j) 16 minutes prices to
+    → steps ≡ countAt s i
     → Joins minutes prices from to steps (placeAt s i) (placeAt s j)
-joined q s i j i-steps j-steps minutes prices from to steps i-card j-card i-few j-few e = record {
-  i-held = holds-steps q s i i-steps minutes prices from i-card i-few;
-  j-held = holds-steps q s j j-steps minutes prices to j-card j-few;
-  step-is = λ k l. step-on-card q s i i-steps minutes prices from i-card i-few k (omega (arith, e));
+joined q s i j i-steps j-steps minutes prices from to steps i-card j-card e = record {
+  i-held = holds-steps q s i i-steps minutes prices from i-card;
+  j-held = holds-steps q s j j-steps minutes prices to j-card;
+  step-is = λ k l. step-on-card q s i i-steps minutes prices from i-card k (omega (arith, e));
   all = λ m is. let (k, low, at) = step-slot s i minutes prices from i-card m is in (k, omega (arith, e), at);
   window = q;
   falls = j-steps;

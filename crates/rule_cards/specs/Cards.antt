@@ -17,17 +17,17 @@ use Rattle.card.specs.declared.Shown.{Shown}
 use Rattle.card.specs.Card.{slot, never, Carded, Tidy, Shows}
 
 -- a card can be looked at, and has its cents
-pub record Ready (minutes prices : List ℕ) (at : ℕ) : Type 0 where
-  pub card : Tidy minutes at
-  pub price-room : at + 16 ≤ length prices
+pub record Ready (minutes prices : List ℕ) (at size : ℕ) : Type 0 where
+  pub card : Tidy minutes at size
+  pub price-room : at + size ≤ length prices
 
--- what the card shows is the value that these steps have
+-- what a place's card of 16 slots shows is the value that these steps have
 abbrev pub HoldsSteps : List ℕ → List ℕ → ℕ → List Step → Type 0
-HoldsSteps minutes prices at ss = (t : Minute) (r : Shown) → t < never → Shows minutes prices at t r → value ss t ≡ shown (r .has) (r .price .0)
+HoldsSteps minutes prices at ss = (t : Minute) (r : Shown) → t < never → Shows minutes prices at 16 t r → value ss t ≡ shown (r .has) (r .price .0)
 
--- what the card shows is the toll that this leg has
+-- what a leg's card of 8 slots shows is the toll that it has
 abbrev pub HoldsTolls : List ℕ → List ℕ → ℕ → Leg → Type 0
-HoldsTolls starts tolls at leg = (t : Minute) (r : Shown) → t < never → Shows starts tolls at t r → tollAt leg t ≡ r .price .0
+HoldsTolls starts tolls at leg = (t : Minute) (r : Shown) → t < never → Shows starts tolls at 8 t r → tollAt leg t ≡ r .price .0
 
 -- the cards of both places and of the leg's bands
 pub record Between (minutes prices : List ℕ) (from to : ℕ) (starts tolls : List ℕ) (steps bands time : ℕ) (i j : List Step) (leg : Leg) : Type 0 where
@@ -102,7 +102,7 @@ LegTested minutes prices from to steps leg latest r =
 
 -- the steps of the place whose count stands at a bit are on the card, if it has room for them
 abbrev pub Laid : List ℕ → ℕ → List ℕ → List ℕ → ℕ → Type 0
-Laid s place minutes prices at = countAt s place ≤ 16 → Carded s (place + 12) 32 (countAt s place) minutes prices at
+Laid s place minutes prices at = countAt s place ≤ 16 → Carded s (place + 12) 32 (countAt s place) 16 minutes prices at
 
 -- the cards of all places: place p has slots 16 p to 16 p + 15
 pub record LaidOut (s : List ℕ) (places : ℕ) (index minutes prices : List ℕ) : Type 0 where

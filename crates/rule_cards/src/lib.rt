@@ -33,13 +33,13 @@ fn departure_obeys(
     to: usize,
     arrival: Minute,
 ) -> bool
-    requires { ⌜ Ready (now minutes) (now prices) to × (arrival .0 < 4096) ⌝ }
+    requires { ⌜ Ready (now minutes) (now prices) to 16 × (arrival .0 < 4096) ⌝ }
     ensures { λ r. ⌜ DepartureTested (now (minutes .entry)) (now (prices .entry)) to (shown (from .has) (from .price .0)) (toll .0) (arrival .0) r ⌝ }
 {
     if !from.has {
         return true;
     }
-    let there = card::look(minutes, prices, to, arrival);
+    let there = card::look(minutes, prices, to, 16, arrival);
     covered(from.price, toll, there)
 }
 
@@ -55,7 +55,7 @@ fn step_obeys(
     time: Minute,
     latest: Minute,
 ) -> bool
-    requires { ⌜ Ready (now minutes) (now prices) from × Ready (now minutes) (now prices) to × Ready (now starts) (now tolls) 0 × (k < 16) × (time .0 ≤ 2879) × (latest .0 ≤ 2879) ⌝ }
+    requires { ⌜ Ready (now minutes) (now prices) from 16 × Ready (now minutes) (now prices) to 16 × Ready (now starts) (now tolls) 0 8 × (k < 16) × (time .0 ≤ 2879) × (latest .0 ≤ 2879) ⌝ }
     ensures { λ r. ⌜ StepTested (now (minutes .entry)) (now (prices .entry)) from to (now (starts .entry)) (now (tolls .entry)) (time .0) (latest .0) k r ⌝ }
 {
     let departure = minutes[from + k];
@@ -68,7 +68,7 @@ fn step_obeys(
         has: true,
         price: Cents(price),
     };
-    let toll = card::look(starts, tolls, 0, Minute(departure));
+    let toll = card::look(starts, tolls, 0, 8, Minute(departure));
     departure_obeys(minutes, prices, here, toll.price, to, Minute(arrival))
 }
 
@@ -84,7 +84,7 @@ fn band_obeys(
     time: Minute,
     latest: Minute,
 ) -> bool
-    requires { ⌜ Ready (now minutes) (now prices) from × Ready (now minutes) (now prices) to × Ready (now starts) (now tolls) 0 × (k < 16) × (time .0 ≤ 2879) × (latest .0 ≤ 2879) ⌝ }
+    requires { ⌜ Ready (now minutes) (now prices) from 16 × Ready (now minutes) (now prices) to 16 × Ready (now starts) (now tolls) 0 8 × (k < 8) × (time .0 ≤ 2879) × (latest .0 ≤ 2879) ⌝ }
     ensures { λ r. ⌜ BandTested (now (minutes .entry)) (now (prices .entry)) from to (now (starts .entry)) (now (tolls .entry)) (time .0) (latest .0) k r ⌝ }
 {
     let departure = starts[k];
@@ -93,7 +93,7 @@ fn band_obeys(
         return true;
     }
     let toll = tolls[k];
-    let here = card::look(minutes, prices, from, Minute(departure));
+    let here = card::look(minutes, prices, from, 16, Minute(departure));
     departure_obeys(minutes, prices, here, Cents(toll), to, Minute(arrival))
 }
 
@@ -109,7 +109,7 @@ fn steps_obey(
     time: Minute,
     latest: Minute,
 ) -> bool
-    requires { ⌜ Ready (now minutes) (now prices) from × Ready (now minutes) (now prices) to × Ready (now starts) (now tolls) 0 × (steps ≤ 16) × (time .0 ≤ 2879) × (latest .0 ≤ 2879) ⌝ }
+    requires { ⌜ Ready (now minutes) (now prices) from 16 × Ready (now minutes) (now prices) to 16 × Ready (now starts) (now tolls) 0 8 × (steps ≤ 16) × (time .0 ≤ 2879) × (latest .0 ≤ 2879) ⌝ }
     ensures { λ r. ⌜ StepsTested (now (minutes .entry)) (now (prices .entry)) from to (now (starts .entry)) (now (tolls .entry)) (time .0) (latest .0) steps r ⌝ }
 {
     let mut k = 0;
@@ -134,7 +134,7 @@ fn bands_obey(
     time: Minute,
     latest: Minute,
 ) -> bool
-    requires { ⌜ Ready (now minutes) (now prices) from × Ready (now minutes) (now prices) to × Ready (now starts) (now tolls) 0 × (bands ≤ 16) × (time .0 ≤ 2879) × (latest .0 ≤ 2879) ⌝ }
+    requires { ⌜ Ready (now minutes) (now prices) from 16 × Ready (now minutes) (now prices) to 16 × Ready (now starts) (now tolls) 0 8 × (bands ≤ 8) × (time .0 ≤ 2879) × (latest .0 ≤ 2879) ⌝ }
     ensures { λ r. ⌜ BandsTested (now (minutes .entry)) (now (prices .entry)) from to (now (starts .entry)) (now (tolls .entry)) (time .0) (latest .0) bands r ⌝ }
 {
     let mut k = 0;
@@ -160,7 +160,7 @@ fn all_obey(
     time: Minute,
     latest: Minute,
 ) -> bool
-    requires { ⌜ Ready (now minutes) (now prices) from × Ready (now minutes) (now prices) to × Ready (now starts) (now tolls) 0 × (steps ≤ 16) × (bands ≤ 16) × (time .0 ≤ 2879) × (latest .0 ≤ 2879) ⌝ }
+    requires { ⌜ Ready (now minutes) (now prices) from 16 × Ready (now minutes) (now prices) to 16 × Ready (now starts) (now tolls) 0 8 × (steps ≤ 16) × (bands ≤ 8) × (time .0 ≤ 2879) × (latest .0 ≤ 2879) ⌝ }
     ensures { λ r. ⌜ AllTested (now (minutes .entry)) (now (prices .entry)) from to (now (starts .entry)) (now (tolls .entry)) (time .0) (latest .0) steps bands r ⌝ }
 {
     if !steps_obey(
@@ -200,14 +200,14 @@ fn cards_obey(
     steps: usize,
     latest: Minute,
 ) -> bool
-    requires { ⌜ LegThere (now net) leg (legAt (now net) leg .count) × InOrder (legAt (now net) leg) × Ready (now minutes) (now prices) from × Ready (now minutes) (now prices) to × (steps ≤ 16) × (latest .0 ≤ 2879) ⌝ }
+    requires { ⌜ LegThere (now net) leg (legAt (now net) leg .count) × InOrder (legAt (now net) leg) × Ready (now minutes) (now prices) from 16 × Ready (now minutes) (now prices) to 16 × (steps ≤ 16) × (latest .0 ≤ 2879) ⌝ }
     ensures { λ r. ⌜ LegTested (now (minutes .entry)) (now (prices .entry)) from to steps (legAt (now (net .entry)) leg) (latest .0) r ⌝ }
 {
     let time = Minute(reader::field(net, leg + 12, 12));
     let bands = reader::field(net, leg + 24, 4) as usize;
-    let mut starts = [4096u32; 16];
-    let mut tolls = [0u32; 16];
-    card::fill(net, leg + 28, 16, bands, &mut starts, &mut tolls, 0);
+    let mut starts = [4096u32; 8];
+    let mut tolls = [0u32; 8];
+    card::fill_bands(net, leg + 28, bands, &mut starts, &mut tolls, 0);
     all_obey(
         minutes,
         prices,
@@ -261,16 +261,16 @@ pub fn leg_obeys(
 
 // Puts the steps of the place whose count stands at a bit on the card from slot `at` on, if it has room for them.
 fn lay_place(sheet: &[u8], place: u32, minutes: &mut [u32], prices: &mut [u32], at: usize)
-    requires { ⌜ (place + 12 + 44 * countAt (now sheet) place ≤ 8 * length (now sheet)) × (at ≤ 100000) × (at + 16 ≤ length (now minutes)) × (at + 16 ≤ length (now prices)) × Blank (now minutes) at ⌝ }
+    requires { ⌜ (place + 12 + 44 * countAt (now sheet) place ≤ 8 * length (now sheet)) × (at ≤ 100000) × (at + 16 ≤ length (now minutes)) × (at + 16 ≤ length (now prices)) × Blank (now minutes) at 16 ⌝ }
     ensures { λ r. ⌜ Laid (now (sheet .entry)) place (now (minutes .exit)) (now (prices .exit)) at
-        × Kept (now (minutes .entry)) (now (minutes .exit)) at × Kept (now (prices .entry)) (now (prices .exit)) at ⌝ }
+        × Kept (now (minutes .entry)) (now (minutes .exit)) at 16 × Kept (now (prices .entry)) (now (prices .exit)) at 16 ⌝ }
 {
     let steps = reader::field(sheet, place as usize, 12) as usize;
     if 16 < steps {
         return;
     }
     let first = place as usize + 12;
-    card::fill(sheet, first, 32, steps, minutes, prices, at);
+    card::fill_steps(sheet, first, steps, minutes, prices, at);
 }
 
 // The cards of all places.

@@ -8,16 +8,16 @@ use Rattle.card.proofs.begun.Statement.{statement}
 use Rattle.card.proofs.begun.Tie as tie
 
 abbrev Inv-loop : tie.InvT-loop
-Inv-loop minutes at now slots₀ k₀ slots k = (k ≤ 16) × Counted minutes at now slots k
+Inv-loop minutes at size now slots₀ k₀ slots k = (k ≤ size) × Counted minutes at now slots k
 
 abbrev μ-loop : tie.MeasureT-loop
-μ-loop minutes at now slots₀ k₀ slots k = 16 - k
+μ-loop minutes at size now slots₀ k₀ slots k = size - k
 
 returns : tie.Need-returns Inv-loop μ-loop
 returns c =
     let a = c .before .before .args in
     let l = c .before .loop in
-    counted-all (a .minutes .now) (a .at) (a .minute .0) (l .slots) (l .k) (l .inv .1) (omega arith)
+    counted-all (a .minutes .now) (a .at) (a .size) (a .minute .0) (l .slots) (l .k) (l .inv .1) (omega arith)
 
 loop-holds : tie.Need-loop-holds Inv-loop μ-loop
 loop-holds c =
@@ -28,10 +28,10 @@ add-slots : tie.Need-add-slots Inv-loop μ-loop
 add-slots c = omega (arith, c .before .before .pre .1)
 
 add-slots-2 : tie.Need-add-slots-2 Inv-loop μ-loop
-add-slots-2 c = omega (arith, c .before .before .pre .0 .near)
+add-slots-2 c = omega (arith, c .before .before .pre .0 .near, c .before .before .pre .0 .small)
 
 mul-slots : tie.Need-mul-slots Inv-loop μ-loop
-mul-slots c = omega (arith, c .before .before .pre .0 .near)
+mul-slots c = omega (arith, c .before .before .pre .0 .near, c .before .before .pre .0 .small)
 
 shared-slice-read-slots : tie.Need-shared-slice-read-slots Inv-loop μ-loop
 shared-slice-read-slots c = omega (arith, c .before .before .before .pre .0 .room)
@@ -46,19 +46,19 @@ more : (c : tie.After-shared-slice-known Inv-loop μ-loop)
 more c =
     let a = c .before .before .before .args in
     let l = c .before .before .loop in
-    counted-more (a .minutes .now) (a .at) (a .minute .0) (l .slots) (l .k) (l .inv .1) (c .before .before .before .pre .0 .rises) (omega arith) (c .before .before .before .pre .1) (slot-low c)
+    counted-more (a .minutes .now) (a .at) (a .size) (a .minute .0) (l .slots) (l .k) (l .inv .1) (c .before .before .before .pre .0 .rises) (omega arith) (c .before .before .before .pre .1) (slot-low c)
 
 sub-slots : tie.Need-sub-slots Inv-loop μ-loop
 sub-slots c = omega (arith, slot-low c)
 
 add-slots-3 : tie.Need-add-slots-3 Inv-loop μ-loop
-add-slots-3 c = omega (arith, more c .few, c .before .before .loop .inv .0)
+add-slots-3 c = omega (arith, more c .few, c .before .before .loop .inv .0, c .before .before .before .pre .0 .small)
 
 loop-again : tie.Need-loop-again Inv-loop μ-loop
 loop-again c = (omega arith, more c)
 
 cast-result : tie.Need-cast-result Inv-loop μ-loop
-cast-result c = omega (arith, c .before .loop .inv .1 .few, c .before .loop .inv .0)
+cast-result c = omega (arith, c .before .loop .inv .1 .few, c .before .loop .inv .0, c .before .before .pre .0 .small)
 
 add-k : tie.Need-add-k Inv-loop μ-loop
 add-k c = search needs

@@ -3,7 +3,7 @@ use borrow.Author.Needs.{needs}
 use Prim.Native.Nat.{ℕ, _+_, _*_, _≤_, _<_}
 use native.Mathlib.Omega.{arith}
 use Rattle.rule_b.specs.InFile.{legAt}
-use Rattle.rule_cards.proofs.Legs.{blank-new, bands-ready, between, leg-tested}
+use Rattle.rule_cards.proofs.Legs.{new-card, bands-ready, between, leg-tested}
 use Rattle.rule_cards.proofs.cards_obey.Statement.{statement}
 use Rattle.rule_cards.proofs.cards_obey.Tie as tie
 
@@ -13,7 +13,8 @@ returns c i j h =
     let a = s .args in
     let bands = c .before .before .before .before .before .before .before .before .field2 in
     let time = c .before .before .before .before .before .before .before .before .before .field in
-    let card = c .before .before .before .before .before .fill .ensures .0 in
+    let fill = c .before .before .before .before .before .fill-bands .ensures in
+    let card = new-card (a .net .now) (a .leg + 28) 16 (bands .result) _ _ (omega (arith, s .pre .0 .few, bands .ensures)) (fill .0) (fill .1) in
     let b = between (a .net .now) (a .leg) (s .pre .1) (a .minutes .now) (a .prices .now) (a .from) (a .to) (a .steps) i j h _ _ (bands .result) (time .result) (bands .ensures) (time .ensures) card in
     leg-tested (a .net .now) (a .leg) (s .pre .1) (a .minutes .now) (a .prices .now) (a .from) (a .to) (a .steps) i j h _ _ (bands .result) (time .result) (bands .ensures) (time .ensures) card
     (a .latest .0) (c .all-obey .result) (c .all-obey .ensures i j (legAt (a .net .now) (a .leg)) b)
@@ -30,14 +31,14 @@ add-field-2 c = omega (arith, c .before .before .before .before .pre .0 .near)
 field-requires-2 : tie.Need-field-requires-2
 field-requires-2 c κs = (omega arith, omega arith, omega (arith, c .before .before .before .before .pre .0 .inside))
 
-add-fill : tie.Need-add-fill
-add-fill c = omega (arith, c .before .before .before .before .before .pre .0 .near)
+add-fill-bands : tie.Need-add-fill-bands
+add-fill-bands c = omega (arith, c .before .before .before .before .before .pre .0 .near)
 
-fill-requires : tie.Need-fill-requires
-fill-requires c κs =
+fill-bands-requires : tie.Need-fill-bands-requires
+fill-bands-requires c κs =
     let h = c .before .before .before .before .before .before .before .pre .0 in
     let bands = c .before .before .field2 in
-    (omega arith, omega arith, omega (arith, h .few, bands .ensures), omega (arith, h .near), omega (arith, h .inside, bands .ensures), omega arith, omega arith, omega arith, λ k low. blank-new 16 0 k (omega arith))
+    (omega (arith, h .few, bands .ensures), omega (arith, h .near), omega (arith, h .inside, bands .ensures), omega arith, omega (arith, h .few, bands .ensures), omega (arith, h .few, bands .ensures))
 
 all-obey-requires : tie.Need-all-obey-requires
 all-obey-requires c κs =
@@ -46,18 +47,18 @@ all-obey-requires c κs =
     let h = s .pre in
     let bands = c .before .before .before .before .before .before .before .field2 in
     let time = c .before .before .before .before .before .before .before .before .field in
-    let fill = c .before .before .before .before .fill in
-    let ready = bands-ready (a .net .now) (a .leg) (h .1) _ _ (bands .result) (bands .ensures) (fill .ensures .0) (fill .ensures .1 .size) (fill .ensures .2 .size) in
+    let fill = c .before .before .before .before .fill-bands in
+    let ready = bands-ready (a .net .now) (a .leg) (h .1) _ _ (bands .result) (bands .ensures) (new-card (a .net .now) (a .leg + 28) 16 (bands .result) _ _ (omega (arith, h .0 .few, bands .ensures)) (fill .ensures .0) (fill .ensures .1)) (fill .ensures .1 .size) (fill .ensures .2 .size) in
     (h .2, h .3, ready, h .4, omega (arith, h .0 .few, bands .ensures), omega (arith, h .1 .time-within, time .ensures), h .5)
 
 cast-bands : tie.Need-cast-bands
 cast-bands c = search needs
 
-slice-aggregate-fill : tie.Need-slice-aggregate-fill
-slice-aggregate-fill c = search needs
+slice-aggregate-fill-bands : tie.Need-slice-aggregate-fill-bands
+slice-aggregate-fill-bands c = search needs
 
-slice-aggregate-fill-2 : tie.Need-slice-aggregate-fill-2
-slice-aggregate-fill-2 c = search needs
+slice-aggregate-fill-bands-2 : tie.Need-slice-aggregate-fill-bands-2
+slice-aggregate-fill-bands-2 c = search needs
 
 slice-aggregate-all-obey : tie.Need-slice-aggregate-all-obey
 slice-aggregate-all-obey c = search needs
@@ -74,10 +75,10 @@ cards-obey-spec =
     add-field-2
     field-requires-2
     cast-bands
-    add-fill
-    slice-aggregate-fill
-    slice-aggregate-fill-2
-    fill-requires
+    add-fill-bands
+    slice-aggregate-fill-bands
+    slice-aggregate-fill-bands-2
+    fill-bands-requires
     slice-aggregate-all-obey
     slice-aggregate-all-obey-2
     all-obey-requires

@@ -24,7 +24,7 @@ returns-2 c =
     let q = window (a .earliest .0) (a .latest .0) in
     c .cards-obey .ensures (placeAt (a .sheet .now) (a .i)) (placeAt (a .sheet .now) (a .j))
     (joined q (a .sheet .now) (a .i) (a .j) (h .1 .from-place .steps) (h .1 .to-place .steps) (a .minutes .now) (a .prices .now) (16 * a .from) (16 * a .to) (steps .result)
-    (h .6 i-few) (h .7 j-few) i-few j-few (steps .ensures))
+    (h .6 i-few) (h .7 j-few) (steps .ensures))
 
 field-requires : tie.Need-field-requires
 field-requires c κs = (omega arith, omega arith, omega (arith, c .before .before .before .before .pre .1 .from-place .inside))
@@ -48,8 +48,8 @@ cards-obey-requires c κs =
     let q = window (a .earliest .0) (a .latest .0) in (
       h .0,
       h .1 .order,
-      place-ready q (a .sheet .now) (a .i) (h .1 .from-place .steps) (a .minutes .now) (a .prices .now) (16 * a .from) (h .6 i-few) i-few (omega (arith, h .2)) (omega (arith, h .2, h .4)) (omega (arith, h .2, h .5)),
-      place-ready q (a .sheet .now) (a .j) (h .1 .to-place .steps) (a .minutes .now) (a .prices .now) (16 * a .to) (h .7 j-few) j-few (omega (arith, h .3)) (omega (arith, h .3, h .4)) (omega (arith, h .3, h .5)),
+      place-ready q (a .sheet .now) (a .i) (h .1 .from-place .steps) (a .minutes .now) (a .prices .now) (16 * a .from) (h .6 i-few) (omega (arith, h .2)) (omega (arith, h .2, h .4)) (omega (arith, h .2, h .5)),
+      place-ready q (a .sheet .now) (a .j) (h .1 .to-place .steps) (a .minutes .now) (a .prices .now) (16 * a .to) (h .7 j-few) (omega (arith, h .3)) (omega (arith, h .3, h .4)) (omega (arith, h .3, h .5)),
       omega (arith, most .0, c .if1 .left),
       h .1 .end,
     )
