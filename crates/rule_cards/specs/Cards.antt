@@ -42,10 +42,6 @@ pub record Between (minutes prices : List ℕ) (from to : ℕ) (starts tolls : L
 abbrev pub RuleIf : Minute → Leg → List Step → List Step → Minute → Type 0
 RuleIf latest leg i j d = d + leg .time .0 ≤ latest → RuleAt leg i j d
 
--- what a test says of one departure
-abbrev pub DepartureTested : List ℕ → List ℕ → ℕ → Option Cents → Cents → Minute → Bool → Type 0
-DepartureTested minutes prices to v toll arrival r = (j : List Step) → HoldsSteps minutes prices to j → Is r (Covers v (value j arrival) toll)
-
 -- what a test says of step k
 abbrev pub StepTested : List ℕ → List ℕ → ℕ → ℕ → List ℕ → List ℕ → ℕ → Minute → ℕ → Bool → Type 0
 StepTested minutes prices from to starts tolls time latest k r =

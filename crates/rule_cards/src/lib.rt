@@ -9,7 +9,7 @@ ghost use Rattle.sheet_file.specs.InPlace.{placeAt, countAt};
 ghost use Rattle.sheet_file.specs.Window.{window};
 ghost use mathlib.Core.Path.{_≡_};
 ghost use lib.ListN.{length, replicate};
-ghost use Rattle.rule_cards.specs.Cards.{Ready, DepartureTested, StepTested, BandTested, StepsTested, BandsTested, AllTested, LegTested, Laid, LaidOut, Inside};
+ghost use Rattle.rule_cards.specs.Cards.{Ready, StepTested, BandTested, StepsTested, BandsTested, AllTested, LegTested, Laid, LaidOut, Inside};
 use card::Shown;
 use leg::Cents;
 use leg::Minute;
@@ -22,25 +22,6 @@ fn covered(from: Cents, toll: Cents, to: Shown) -> bool
         return false;
     }
     to.price.0 as u64 <= from.0 as u64 + toll.0 as u64
-}
-
-// The rule at one departure, with the value there and the toll; the value at the arrival is on a card.
-fn departure_obeys(
-    minutes: &[u32],
-    prices: &[u32],
-    from: Shown,
-    toll: Cents,
-    to: usize,
-    arrival: Minute,
-) -> bool
-    requires { ⌜ Ready (now minutes) (now prices) to 16 × (arrival .0 < 4096) ⌝ }
-    ensures { λ r. ⌜ DepartureTested (now (minutes .entry)) (now (prices .entry)) to (shown (from .has) (from .price .0)) (toll .0) (arrival .0) r ⌝ }
-{
-    if !from.has {
-        return true;
-    }
-    let there = card::look(minutes, prices, to, 16, arrival);
-    covered(from.price, toll, there)
 }
 
 // The rule at step k of the place that the leg leaves.
@@ -64,12 +45,9 @@ fn step_obeys(
         return true;
     }
     let price = prices[from + k];
-    let here = Shown {
-        has: true,
-        price: Cents(price),
-    };
     let toll = card::look(starts, tolls, 0, 8, Minute(departure));
-    departure_obeys(minutes, prices, here, toll.price, to, Minute(arrival))
+    let there = card::look(minutes, prices, to, 16, Minute(arrival));
+    covered(Cents(price), toll.price, there)
 }
 
 // The rule where band k starts.
@@ -94,7 +72,11 @@ fn band_obeys(
     }
     let toll = tolls[k];
     let here = card::look(minutes, prices, from, 16, Minute(departure));
-    departure_obeys(minutes, prices, here, Cents(toll), to, Minute(arrival))
+    let there = card::look(minutes, prices, to, 16, Minute(arrival));
+    if !here.has {
+        return true; // no value at the departure
+    }
+    covered(here.price, Cents(toll), there)
 }
 
 // The rule at the first `steps` steps of the place that the leg leaves.

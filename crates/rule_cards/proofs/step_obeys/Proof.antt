@@ -3,9 +3,12 @@ use borrow.Author.Needs.{needs}
 use Prim.Native.Nat.{_+_, _≤_, _<_}
 use native.Mathlib.Omega.{arith}
 use mathlib.Core.Path.{_≡_, refl}
+use mathlib.Core.Bool.{true}
 use mathlib.Core.Option.{some}
+use Rattle.plan.specs.Sheet.{value}
 use Rattle.card.specs.Card.{slot}
-use Rattle.rule_cards.proofs.Departures.{rule-tested, rule-late}
+use Rattle.rule_b.specs.Cursor.{shown}
+use Rattle.rule_cards.proofs.Departures.{covers-some, rule-tested, rule-late}
 use Rattle.rule_cards.proofs.step_obeys.Statement.{statement}
 use Rattle.rule_cards.proofs.step_obeys.Tie as tie
 
@@ -16,13 +19,17 @@ returns c i j leg steps bands b low =
 
 returns-2 : tie.Need-returns-2
 returns-2 c i j leg steps bands b low =
-    let s = c .before .before .before .before .before .before .before .before .before .before .before in
+    let s = c .before .before .before .before .before .before .before .before .before .before .before .before in
     let a = s .args in
     let d = slot (a .minutes .now) (a .from) (a .k) in
-    let toll = c .before .look in
-    let soon : d + a .time .0 ≤ a .latest .0 = omega (arith, c .before .before .before .if1 .left) in
-    rule-tested leg i j d (d + a .time .0) (a .time .0) (some (slot (a .prices .now) (a .from) (a .k))) (toll .result .price .0) (b .time-is) refl (b .step-is (a .k) low)
-    (b .leg-held d (toll .result) (omega (arith, soon, s .pre .5)) (toll .ensures)) (a .latest .0) (c .departure-obeys .result) soon (c .departure-obeys .ensures j (b .j-held))
+    let price = slot (a .prices .now) (a .from) (a .k) in
+    let toll = c .before .before .look in
+    let there = c .before .look2 in
+    let soon : d + a .time .0 ≤ a .latest .0 = omega (arith, c .before .before .before .before .if1 .left) in
+    let arrives = b .j-held (d + a .time .0) (there .result) (omega (arith, soon, s .pre .5)) (there .ensures) in
+    rule-tested leg i j d (d + a .time .0) (a .time .0) (some price) (toll .result .price .0) (b .time-is) refl (b .step-is (a .k) low)
+    (b .leg-held d (toll .result) (omega (arith, soon, s .pre .5)) (toll .ensures)) (a .latest .0) (c .covered .result) soon
+    (covers-some true price (toll .result .price .0) (value j (d + a .time .0)) (shown (there .result .has) (there .result .price .0)) (c .covered .result) refl arrives (c .covered .ensures))
 
 add-departure : tie.Need-add-departure
 add-departure c = omega (arith, c .before .before .before .before .pre .0 .card .near, c .before .before .before .before .pre .3)
@@ -44,8 +51,13 @@ look-requires c κs =
     let card = c .before .before .before .before .before .before .before .before .before .pre .2 in
     (card .card, card .price-room, omega (arith, c .before .if1 .left, c .before .before .before .before .before .before .before .before .before .pre .5))
 
-departure-obeys-requires : tie.Need-departure-obeys-requires
-departure-obeys-requires c κs = (c .before .before .before .before .before .before .before .before .before .before .pre .1, omega (arith, c .before .before .if1 .left, c .before .before .before .before .before .before .before .before .before .before .pre .5))
+look-requires-2 : tie.Need-look-requires-2
+look-requires-2 c κs =
+    let card = c .before .before .before .before .before .before .before .before .before .before .pre .1 in
+    (card .card, card .price-room, omega (arith, c .before .before .if1 .left, c .before .before .before .before .before .before .before .before .before .before .pre .5))
+
+covered-requires : tie.Need-covered-requires
+covered-requires c κs = search needs
 
 mul-departure : tie.Need-mul-departure
 mul-departure c = search needs
@@ -66,5 +78,6 @@ step-obeys-spec =
     mul-price
     shared-slice-read-price
     look-requires
-    departure-obeys-requires
+    look-requires-2
+    covered-requires
     returns-2)
