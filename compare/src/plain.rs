@@ -715,21 +715,21 @@ fn leg_walks(leg: &Leg, steps: &Steps, latest: usize) -> bool {
     }
 }
 
-/// How many slots a card has.
+/// How many steps a place's card has room for.
 const SLOTS: usize = 16;
 /// The minute of a slot that is not taken.
 const NEVER: u32 = 4_096;
 
-/// Sixteen slots of minutes and cents: the steps of a place, or the bands of a leg.
+/// A few slots of minutes and cents: the steps of a place, or the bands of a leg.
 #[derive(Clone, Copy)]
-struct Card {
-    minutes: [u32; SLOTS],
-    prices: [u32; SLOTS],
+struct Card<const N: usize> {
+    minutes: [u32; N],
+    prices: [u32; N],
 }
 
-const BLANK: Card = Card { minutes: [NEVER; SLOTS], prices: [0; SLOTS] };
+impl<const N: usize> Card<N> {
+    const BLANK: Card<N> = Card { minutes: [NEVER; N], prices: [0; N] };
 
-impl Card {
     /// How many slots have begun: each adds 1 or 0, without a branch.
     #[inline(always)]
     fn begun(&self, minute: u32) -> usize {
@@ -739,13 +739,13 @@ impl Card {
     /// The cents of the last slot that has begun.
     #[inline(always)]
     fn look(&self, minute: u32) -> Option<u64> {
-        self.begun(minute).checked_sub(1).map(|last| u64::from(self.prices[last % SLOTS]))
+        self.begun(minute).checked_sub(1).map(|last| u64::from(self.prices[last % N]))
     }
 }
 
 /// A card for each place whose steps it has room for.
-fn lay(steps: &Steps, places: usize) -> [Card; 64] {
-    let mut cards = [BLANK; 64];
+fn lay(steps: &Steps, places: usize) -> [Card<SLOTS>; 64] {
+    let mut cards = [Card::BLANK; 64];
     for (place, card) in cards[..places].iter_mut().enumerate() {
         if steps.count[place] <= SLOTS {
             for k in 0..steps.count[place] {
@@ -759,12 +759,12 @@ fn lay(steps: &Steps, places: usize) -> [Card; 64] {
 }
 
 /// Rule (b) along one leg: by cards where they have room for the steps of both places.
-fn leg_obeys(leg: &Leg, steps: &Steps, cards: &[Card; 64], latest: usize) -> bool {
+fn leg_obeys(leg: &Leg, steps: &Steps, cards: &[Card<SLOTS>; 64], latest: usize) -> bool {
     let (from, to) = (leg.from as usize, leg.to as usize);
     if steps.count[from].max(steps.count[to]) > SLOTS {
         return leg_walks(leg, steps, latest);
     }
-    let mut bands = BLANK;
+    let mut bands = Card::<8>::BLANK;
     for k in 0..leg.bands as usize {
         bands.minutes[k] = u32::from(leg.starts[k]);
         bands.prices[k] = u32::from(leg.tolls[k]);
@@ -779,7 +779,7 @@ fn leg_obeys(leg: &Leg, steps: &Steps, cards: &[Card; 64], latest: usize) -> boo
     });
     steps_obey
         && (0..leg.bands as usize).all(|k| {
-            let (departure, toll) = (bands.minutes[k % SLOTS], u64::from(bands.prices[k % SLOTS]));
+            let (departure, toll) = (bands.minutes[k % 8], u64::from(bands.prices[k % 8]));
             late(departure) || here.look(departure).is_none_or(|value| covered(departure, value + toll))
         })
 }
