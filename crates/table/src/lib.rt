@@ -65,7 +65,7 @@ fn band_start(leg: Leg, k: usize) -> Minute
         let band = bands[k];
         band.start
     } else {
-        Minute(2880)
+        Minute(Minute::COUNT)
     }
 }
 
