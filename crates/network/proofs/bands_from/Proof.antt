@@ -95,7 +95,7 @@ loop-again c =
 new-requires : tie.Need-new-requires Inv-loop μ-loop
 new-requires c κs =
     let h = c .before .before .before .before .before .pre in
-    (h .3, h .1, h .2)
+    (h .3, omega (arith, h .1), omega (arith, h .2))
 
 returns-2 : tie.Need-returns-2 Inv-loop μ-loop
 returns-2 c =
