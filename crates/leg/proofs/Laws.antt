@@ -12,7 +12,8 @@ use Rattle.leg.specs.declared.Minute.{Minute}
 use Rattle.leg.specs.declared.Cents.{Cents}
 use Rattle.leg.specs.declared.MinuteFound.{MinuteFound}
 use Rattle.leg.specs.declared.CentsFound.{CentsFound}
-use Rattle.leg.specs.Ranges.{noBand, minute, cents, pickMinute, pickCents}
+use Rattle.leg.specs.declared.CountFound.{CountFound}
+use Rattle.leg.specs.Ranges.{noBand, minute, cents, pickMinute, pickCents, pickCount}
 use Rattle.leg.specs.Toll.{either, tollOfFirst}
 
 module _ (k : ℕ) (bands : List Band) (t : ℕ) where
@@ -40,3 +41,8 @@ cents-within false n m e = (cc, cc)
 pub cents-beyond : (t : Bool) (n : ℕ) → pickCents t n ≡ CentsFound.Beyond → t ≡ false
 cents-beyond true n e = cc
 cents-beyond false n e = refl
+
+pub count-within : (few most : Bool) (n m : ℕ) → pickCount few most n ≡ CountFound.Within m → (few ≡ true) × (most ≡ true) × (m ≡ n)
+count-within true true n m e = (refl, refl, cc)
+count-within true false n m e = (cc, cc, cc)
+count-within false most n m e = (cc, cc, cc)

@@ -7,8 +7,10 @@ use lib.ListN.{replicate}
 use Rattle.leg.specs.declared.Minute.{Minute}
 use Rattle.leg.specs.declared.Cents.{Cents}
 use Rattle.leg.specs.declared.Band.{Band}
+use Rattle.leg.specs.declared.Leg.{Leg}
 use Rattle.leg.specs.declared.MinuteFound.{MinuteFound}
 use Rattle.leg.specs.declared.CentsFound.{CentsFound}
+use Rattle.leg.specs.declared.CountFound.{CountFound}
 
 -- time is whole minutes, 0 to this one
 abbrev pub lastMinute : ℕ
@@ -17,6 +19,10 @@ lastMinute = 2879
 -- a toll is at most this many cents
 abbrev pub mostCents : ℕ
 mostCents = 65535
+
+-- a leg has 1 to this many bands
+abbrev pub mostBands : ℕ
+mostBands = 8
 
 -- the code's minute n
 abbrev pub minute : ℕ → Minute
@@ -44,6 +50,16 @@ pickCents false n = CentsFound.Beyond
 abbrev pub centsOf : ℕ → CentsFound
 centsOf n = pickCents (leb n mostCents) n
 
+-- a number of bands that passed both its tests, or not
+abbrev pub pickCount : Bool → Bool → ℕ → CountFound
+pickCount true true n = CountFound.Within n
+pickCount true false n = CountFound.Beyond
+pickCount false most n = CountFound.Beyond
+
+-- n bands, if a leg may have as many
+abbrev pub countOf : ℕ → CountFound
+countOf n = pickCount (leb 1 n) (leb n mostBands) n
+
 -- a band that starts at this minute and has this toll
 abbrev pub bandOf : ℕ → ℕ → Band
 bandOf start toll = record { start = minute start; toll = cents toll }
@@ -55,3 +71,7 @@ noBand = bandOf 0 0
 -- so many places with no band
 abbrev pub noBands : ℕ → List Band
 noBands n = replicate n noBand
+
+-- a leg between two places with this driving time and these bands, of which so many are the leg's
+abbrev pub legOf : ℕ → ℕ → ℕ → List Band → ℕ → Leg
+legOf from to time bands count = record { from = from; to = to; time = minute time; bands = bands; count = count }

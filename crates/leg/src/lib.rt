@@ -1,7 +1,7 @@
 // The quantities of document 01 (a minute, cents) and a leg with its bands: what each may hold, and a leg's toll.
 ghost use mathlib.Core.Path.{_≡_};
 ghost use Prim.Native.Nat.{_≤_};
-ghost use Rattle.leg.specs.Ranges.{minuteOf, centsOf, noBand, noBands};
+ghost use Rattle.leg.specs.Ranges.{lastMinute, mostCents, mostBands, minute, minuteOf, centsOf, countOf, bandOf, noBand, noBands, legOf};
 ghost use Rattle.leg.specs.Toll.{tollAt};
 
 // A minute of the day or a driving time in minutes: never to be added to cents.
@@ -35,8 +35,16 @@ pub enum CentsFound {
     Beyond,
 }
 
+pub enum CountFound {
+    Within(usize),
+    Beyond,
+}
+
 impl Minute {
     pub const LAST: u32 = 2879;
+
+    // How many minutes there are, 0 and the last among them.
+    pub const COUNT: u32 = 2880;
 
     // The minute n, if it is one.
     pub fn new(n: u32) -> MinuteFound
@@ -66,14 +74,19 @@ impl Cents {
 }
 
 impl Band {
+    // A band from a minute on, at a toll that is in range.
+    pub fn new(start: Minute, toll: Cents) -> Band
+        requires { ⌜ (start .0 ≤ lastMinute) × (toll .0 ≤ mostCents) ⌝ }
+        ensures { λ r. ⌜ r ≡ bandOf (start .0) (toll .0) ⌝ }
+    {
+        Band { start, toll }
+    }
+
     // What stands where a leg has no band.
     pub fn none() -> Band
         ensures { λ r. ⌜ r ≡ noBand ⌝ }
     {
-        Band {
-            start: Minute(0),
-            toll: Cents(0),
-        }
+        Band::new(Minute(0), Cents(0))
     }
 
     // Eight places for bands, none of them taken.
@@ -85,7 +98,50 @@ impl Band {
 }
 
 impl Leg {
+    pub const FEWEST_BANDS: u32 = 1;
+
     pub const MOST_BANDS: u32 = 8;
+
+    // n bands, if a leg may have as many.
+    pub fn band_count(n: u32) -> CountFound
+        ensures { λ r. ⌜ r ≡ countOf n ⌝ }
+    {
+        if n < Leg::FEWEST_BANDS {
+            return CountFound::Beyond;
+        }
+        if Leg::MOST_BANDS < n {
+            return CountFound::Beyond;
+        }
+        CountFound::Within(n as usize)
+    }
+
+    // A leg of 1 to 8 bands, with a driving time that is in range.
+    pub fn new(from: u32, to: u32, time: Minute, bands: [Band; 8], count: usize) -> Leg
+        requires { ⌜ (time .0 ≤ lastMinute) × (1 ≤ count) × (count ≤ mostBands) ⌝ }
+        ensures { λ r. ⌜ r ≡ legOf from to (time .0) bands count ⌝ }
+    {
+        Leg {
+            from,
+            to,
+            time,
+            bands,
+            count,
+        }
+    }
+
+    // What stands where there is no leg.
+    pub fn none() -> Leg
+        ensures { λ r. ⌜ r ≡ legOf 0 0 0 (noBands 8) 0 ⌝ }
+    {
+        let bands = Band::places();
+        Leg {
+            from: 0,
+            to: 0,
+            time: Minute(0),
+            bands,
+            count: 0,
+        }
+    }
 
     // The toll at a minute: that of the last band whose start is not later.
     pub fn toll_at(self, minute: Minute) -> Cents

@@ -133,6 +133,11 @@ module _ (src : Source) (at : ℕ) where
       let t = both-true (leb 1 (h .count)) (leb (h .count) (form .mostBands)) (r .count-within) in
       (leb-true 1 (h .count) (t .0), leb-true (h .count) (form .mostBands) (t .1))
 
+  -- its driving time is a minute of the clock
+  pub head-time : (form : Form) (places : ℕ) (h : Head) (end : ℕ) → HeadRead form places h end → h .time .0 ≤ lastMinute
+  head-time form places h end r =
+      rw (r .head-is) (leb-true (src .value 12 (src .after 6 (src .after 6 at))) lastMinute (r .time-within))
+
   -- the head of a network that was found
   pub record TopRead (t : Top) (end : ℕ) : Type 0 where
     pub edition-there : src .has 8 at ≡ true

@@ -17,7 +17,7 @@ use Rattle.network.specs.declared.Head.{Head}
 use Rattle.network.specs.Reading.{found}
 use Rattle.network.specs.Network.{Network, edition1, follows, band, bands, bare, withBand, head, leg, legs, network}
 use Rattle.network.specs.Answers.{bandsOf}
-use Rattle.network.proofs.Inversion.{inner-step, band-inv, start-small, toll-small, start-after, head-inv, head-count}
+use Rattle.network.proofs.Inversion.{inner-step, band-inv, start-small, toll-small, start-after, head-inv, head-count, head-time}
 use Rattle.network.proofs.Accepted.{accepted, next-leg}
 
 abbrev pub startOf : Leg → ℕ → ℕ
@@ -188,9 +188,7 @@ module _ (src : Source) where
             omega (arith, t .2, ap (λ (x : Head). x .from) (r .head-is), ltb-true (src .value 6 at) places (r .from-within));
         to-below =
             omega (arith, t .3, ap (λ (x : Head). x .to) (r .head-is), ltb-true (src .value 6 (src .after 6 at)) places (r .to-within));
-        time-within =
-            rw (t .4)
-            (rw (r .head-is) (leb-true (src .value 12 (src .after 6 (src .after 6 at))) lastMinute (r .time-within)));
+        time-within = rw (t .4) (head-time src at edition1 places h (s .1) r);
         some-band = omega (arith, count, n .0);
         few-bands = omega (arith, count, n .1);
         begins = p .begins (omega (arith, count, n .0));

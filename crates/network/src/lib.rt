@@ -1,6 +1,7 @@
 // What a network file or a list of numbers stands for: judged field by field, in document 01's order.
 ghost use mathlib.Core.Path.{_≡_};
 ghost use Prim.Native.Nat.{_≤_};
+ghost use Rattle.leg.specs.Ranges.{lastMinute};
 ghost use Rattle.source.specs.Source.{sourceOf};
 ghost use Rattle.network.specs.Reading.{refused};
 ghost use Rattle.network.specs.Network.{edition1, follows, band, bands, bare, head, leg, top, body, network};
@@ -9,6 +10,7 @@ use answer::Refusal;
 use leg::Band;
 use leg::Cents;
 use leg::CentsFound;
+use leg::CountFound;
 use leg::Leg;
 use leg::Minute;
 use leg::MinuteFound;
@@ -117,13 +119,7 @@ pub fn band_from(origin: Origin, net: &[u8], list: &[u32], at: usize, least: u32
     let CentsFound::Within(price) = Cents::new(toll) else {
         return BandFound::Refused(Refusal::Range);
     };
-    BandFound::Sound(
-        Band {
-            start: from,
-            toll: price,
-        },
-        fields.after,
-    )
+    BandFound::Sound(Band::new(from, price), fields.after)
 }
 
 // The head of a leg: from, to, driving time, number of bands.
@@ -154,17 +150,14 @@ pub fn head_from(origin: Origin, net: &[u8], list: &[u32], at: usize, places: u3
     if have == 3 {
         return HeadFound::Refused(Refusal::Short);
     }
-    if fields.d < 1 {
+    let CountFound::Within(count) = Leg::band_count(fields.d) else {
         return HeadFound::Refused(Refusal::Range);
-    }
-    if Leg::MOST_BANDS < fields.d {
-        return HeadFound::Refused(Refusal::Range);
-    }
+    };
     let head = Head {
         from: fields.a,
         to: fields.b,
         time,
-        count: fields.d as usize,
+        count,
     };
     HeadFound::Sound(head, fields.after)
 }
@@ -173,23 +166,16 @@ pub fn head_from(origin: Origin, net: &[u8], list: &[u32], at: usize, places: u3
 fn no_leg(why: Refusal) -> LegFound
     ensures { λ r. ⌜ r ≡ legFound (refused why) ⌝ }
 {
-    let bands = Band::places();
     LegFound {
         verdict: Verdict::Refused(why),
-        leg: Leg {
-            from: 0,
-            to: 0,
-            time: Minute(0),
-            bands,
-            count: 0,
-        },
+        leg: Leg::none(),
         after: 0,
     }
 }
 
 // The bands of a leg, after its head.
 pub fn bands_from(origin: Origin, net: &[u8], list: &[u32], at: usize, head: Head) -> LegFound
-    requires { ⌜ (at ≤ 900000) × (head .count ≤ 8) ⌝ }
+    requires { ⌜ (at ≤ 900000) × (1 ≤ head .count) × (head .count ≤ 8) × (head .time .0 ≤ lastMinute) ⌝ }
     ensures { λ r. ⌜ r ≡ legFound (bands (head .count) 0 (bare edition1 head) (sourceOf origin (now (net .entry)) (now (list .entry))) at) ⌝ }
 {
     let count = head.count;
@@ -211,16 +197,9 @@ pub fn bands_from(origin: Origin, net: &[u8], list: &[u32], at: usize, head: Hea
         }
         k += 1;
     }
-    let time = head.time;
     LegFound {
         verdict: Verdict::Sound,
-        leg: Leg {
-            from: head.from,
-            to: head.to,
-            time,
-            bands,
-            count,
-        },
+        leg: Leg::new(head.from, head.to, head.time, bands, count),
         after: place,
     }
 }

@@ -7,6 +7,7 @@ use lib.ListN.{length, take, drop, replicate, length-set, length-replicate}
 use borrow.Rule.Slice.PartMut.{putMid}
 use Rattle.plan.specs.Network as Plan
 use Rattle.plan.specs.Table.{noPlan, MinuteTable, cellAt}
+use Rattle.leg.specs.declared.Minute.{Minute}
 use Rattle.network.specs.declared.Size.{Size}
 use Rattle.network.specs.Network.{Network}
 use Rattle.rows.specs.Row.{at}
@@ -19,7 +20,7 @@ use Rattle.table.proofs.Keeping.{row-fits}
 use Rattle.table.proofs.Clean.{clean-table, outset-kept, any-end}
 use Rattle.table.proofs.InFile.{in-file, net-is, ranges-kept, few-places}
 
-module _ (s : List ℕ) (size : Size) (start earliest latest : ℕ) (cells : List ℕ) (f : Fillable s size start earliest latest cells) where
+module _ (s : List ℕ) (size : Size) (start : ℕ) (earliest latest : Minute) (cells : List ℕ) (f : Fillable s size start (earliest .0) (latest .0) cells) where
   abbrev pub this : Ask
   this = record { start = start; earliest = earliest; latest = latest }
 
@@ -56,12 +57,12 @@ module _ (s : List ℕ) (size : Size) (start earliest latest : ℕ) (cells : Lis
   }
 
   pub fill-done : (cells′ low : List ℕ) → length cells′ ≡ length cells → Clean (planned (netIn s)) (query this) cells′ low
-      → Filled s start earliest latest cells cells′
+      → Filled s start (earliest .0) (latest .0) cells cells′
   fill-done cells′ low long c = record {
     long = long;
     table = λ n last stands end.
         subst
-        (λ (m : Network). MinuteTable (planned m) (asked start end earliest latest) (cellAt (asked start end earliest latest) cells′))
+        (λ (m : Network). MinuteTable (planned m) (asked start end (earliest .0) (latest .0)) (cellAt (asked start end (earliest .0) (latest .0)) cells′))
         (net-is s n last stands)
         (any-end (planned (netIn s)) (query this) start end (cellAt (query this) cells′)
         (clean-table (planned (netIn s)) (query this) plan-asked cells′ low (c .kept) (c .clean)));

@@ -49,7 +49,7 @@ module _ (s : List ℕ) (size : Size) (ask : Ask) (chart row cells low : List �
   this-sound : SoundLeg (netIn s .places) x
   this-sound = rw this-leg (leg-sound s size (g .sound) chart (g .charted) l (g .known))
 
-  pub leg-room : (x .to * w + w ≤ length cells) × (w ≤ length row) × (ask .earliest + w ≤ 2880) × Banded x × (x .to < length low)
+  pub leg-room : (x .to * w + w ≤ length cells) × (w ≤ length row) × (ask .earliest .0 + w ≤ 2880) × Banded x × (x .to < length low)
   leg-room =
       rw wide (
         row-fits (netIn s .places) (columns ask) (x .to) (length cells) (this-sound .to-below) (v .kept .long),
@@ -59,17 +59,17 @@ module _ (s : List ℕ) (size : Size) (ask : Ask) (chart row cells low : List �
         omega (arith, this-sound .to-below, v .kept .places),
       )
 
-  onward : (cells′ : List ℕ) (first : ℕ) → Rode x (ask .earliest) (columns ask) from cells cells′ row first 0 2880
+  onward : (cells′ : List ℕ) (first : ℕ) → Rode x (ask .earliest .0) (columns ask) from cells cells′ row first 0 2880
       → Dec (first < columns ask) → (set low (x .to) (min (at low (x .to)) first) ≡ low) ⊎ (sum cells′ < sum cells)
   onward cells′ first r (yes h) = inr (r .less h)
   onward cells′ first r (no h) =
       let same : min (at low (x .to)) first ≡ at low (x .to) = omega (arith, v .kept .lows (x .to)) in
       inl (rw same (set-getD low (x .to) 0))
 
-  pub leg-done : (cells′ low′ : List ℕ) → RodeOut x (ask .earliest) w from cells cells′ row low low′
+  pub leg-done : (cells′ low′ : List ℕ) → RodeOut x (ask .earliest .0) w from cells cells′ row low low′
       → Visiting (planned (netIn s)) (query ask) cells′ low′ row p from l × Onward cells cells′ low low′
   leg-done cells′ low′ o =
-      let r : Rode x (ask .earliest) (columns ask) from cells cells′ row (o .first) 0 2880 = rw wide at (o .rode) in
+      let r : Rode x (ask .earliest .0) (columns ask) from cells cells′ row (o .first) 0 2880 = rw wide at (o .rode) in
       rw (o .noted) (
         visiting-rode (planned (netIn s)) (query ask) (ranges-kept (netIn s) (in-file s size (g .sound) .sound)) cells cells′ low row p from l (o .first) x v
             (leg-known s size (g .sound) chart (g .charted) l (g .known)) (g .leaves) (leg-of s size (g .sound) chart (g .charted) l (g .known) x this-leg)

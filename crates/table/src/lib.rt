@@ -12,7 +12,9 @@ ghost use Rattle.table.specs.Ride.{Banded, bandStart, Rode, RodeOut};
 ghost use Rattle.table.specs.Chains.{Chained, Leaving, Ready};
 ghost use Rattle.table.specs.Kept.{Kept, Never, Visiting, Onward, Visited, Clean, FirstNew, NextNew, Outset};
 ghost use Rattle.table.specs.Filled.{Fillable, Filled};
+use leg::Cents;
 use leg::Leg;
+use leg::Minute;
 use network::Size;
 
 // What a cell holds where there is no plan.
@@ -21,15 +23,15 @@ const NO_PLAN: u32 = 4294967295;
 // From where, and the first and last minute.
 pub struct Ask {
     pub start: u32,
-    pub earliest: u32,
-    pub latest: u32,
+    pub earliest: Minute,
+    pub latest: Minute,
 }
 
-// A toll in 64 bits.
-fn wide(x: u32) -> u64
-    ensures { λ r. ⌜ (r ≡ x) × (r < 4294967296) ⌝ }
+// What a ride at this toll adds to a cell: 64 for each cent, and 1 for the leg.
+fn adds(toll: Cents) -> u64
+    ensures { λ r. ⌜ (r ≡ 64 * toll .0 + 1) × (r < 1000000000000) ⌝ }
 {
-    x as u64
+    64 * toll.0 as u64 + 1
 }
 
 // The smaller and the greater of two columns.
@@ -53,41 +55,45 @@ fn less(a: usize, b: usize) -> usize
 }
 
 // The minute at which band k starts; past the last band, the end of the clock.
-fn band_start(leg: Leg, k: usize) -> usize
+fn band_start(leg: Leg, k: usize) -> Minute
     requires { ⌜ leg .count ≤ 8 ⌝ }
-    ensures { λ r. ⌜ r ≡ bandStart leg k ⌝ }
+    ensures { λ r. ⌜ r .0 ≡ bandStart leg k ⌝ }
 {
     let bands = leg.bands;
     let count = leg.count;
     if k < count {
         let band = bands[k];
-        band.start.0 as usize
+        band.start
     } else {
-        2880
+        Minute(Minute::COUNT)
     }
+}
+
+// The column of a minute; that of the window's first minute where it is earlier.
+fn column(minute: Minute, earliest: Minute) -> usize
+    ensures { λ r. ⌜ r ≡ minute .0 - earliest .0 ⌝ }
+{
+    less(minute.0 as usize, earliest.0 as usize)
 }
 
 // Rides in band k, from the columns not before `from`: the first column of the target's row that changed, or w.
 fn ride_band(
     leg: Leg,
     k: usize,
-    earliest: u32,
+    earliest: Minute,
     w: usize,
     row: &[u32],
     from: usize,
     cells: &mut [u32],
 ) -> usize
-    requires { ⌜ (k < leg .count) × (leg .to * w + w ≤ length (now cells)) × (w ≤ length (now row)) × (earliest + w ≤ 2880) × Banded leg ⌝ }
-    ensures { λ r. ⌜ Rode leg earliest w from (now (cells .entry)) (now (cells .exit)) (now (row .entry)) r (bandStart leg k) (bandStart leg (k + 1)) ⌝ }
+    requires { ⌜ (k < leg .count) × (leg .to * w + w ≤ length (now cells)) × (w ≤ length (now row)) × (earliest .0 + w ≤ 2880) × Banded leg ⌝ }
+    ensures { λ r. ⌜ Rode leg (earliest .0) w from (now (cells .entry)) (now (cells .exit)) (now (row .entry)) r (bandStart leg k) (bandStart leg (k + 1)) ⌝ }
 {
     let bands = leg.bands;
     let band = bands[k];
     let time = leg.time.0 as usize;
-    let begin = greater(from, less(band_start(leg, k), earliest as usize));
-    let until = lesser(
-        less(band_start(leg, k + 1), earliest as usize),
-        less(w, time),
-    );
+    let begin = greater(from, column(band_start(leg, k), earliest));
+    let until = lesser(column(band_start(leg, k + 1), earliest), less(w, time));
     if until <= begin {
         return w;
     }
@@ -99,14 +105,14 @@ fn ride_band(
         begin,
         until,
         time,
-        64 * wide(band.toll.0) + 1,
+        adds(band.toll),
     )
 }
 
 // Rides along a leg from the columns not before `from`, band by band: the first column of its target's row that changed, or w.
-fn ride(leg: Leg, earliest: u32, w: usize, row: &[u32], from: usize, cells: &mut [u32]) -> usize
-    requires { ⌜ (leg .to * w + w ≤ length (now cells)) × (w ≤ length (now row)) × (earliest + w ≤ 2880) × Banded leg ⌝ }
-    ensures { λ r. ⌜ Rode leg earliest w from (now (cells .entry)) (now (cells .exit)) (now (row .entry)) r 0 2880 ⌝ }
+fn ride(leg: Leg, earliest: Minute, w: usize, row: &[u32], from: usize, cells: &mut [u32]) -> usize
+    requires { ⌜ (leg .to * w + w ≤ length (now cells)) × (w ≤ length (now row)) × (earliest .0 + w ≤ 2880) × Banded leg ⌝ }
+    ensures { λ r. ⌜ Rode leg (earliest .0) w from (now (cells .entry)) (now (cells .exit)) (now (row .entry)) r 0 2880 ⌝ }
 {
     let count = leg.count;
     let mut first = w;
@@ -121,15 +127,15 @@ fn ride(leg: Leg, earliest: u32, w: usize, row: &[u32], from: usize, cells: &mut
 // Rides along a leg, and its target notes the first column that changed.
 fn ride_out(
     leg: Leg,
-    earliest: u32,
+    earliest: Minute,
     w: usize,
     row: &[u32],
     from: usize,
     cells: &mut [u32],
     low: &mut [usize],
 )
-    requires { ⌜ (leg .to * w + w ≤ length (now cells)) × (w ≤ length (now row)) × (earliest + w ≤ 2880) × Banded leg × (leg .to < length (now low)) ⌝ }
-    ensures { λ r. ⌜ RodeOut leg earliest w from (now (cells .entry)) (now (cells .exit)) (now (row .entry)) (now (low .entry)) (now (low .exit)) ⌝ }
+    requires { ⌜ (leg .to * w + w ≤ length (now cells)) × (w ≤ length (now row)) × (earliest .0 + w ≤ 2880) × Banded leg × (leg .to < length (now low)) ⌝ }
+    ensures { λ r. ⌜ RodeOut leg (earliest .0) w from (now (cells .entry)) (now (cells .exit)) (now (row .entry)) (now (low .entry)) (now (low .exit)) ⌝ }
 {
     let to = leg.to as usize;
     let first = ride(leg, earliest, w, row, from, cells);
@@ -138,10 +144,10 @@ fn ride_out(
 
 // The number of columns.
 fn width(ask: Ask) -> usize
-    requires { ⌜ (ask .earliest ≤ ask .latest) × (ask .latest ≤ 2879) ⌝ }
+    requires { ⌜ (ask .earliest .0 ≤ ask .latest .0) × (ask .latest .0 ≤ 2879) ⌝ }
     ensures { λ r. ⌜ r ≡ columns ask ⌝ }
 {
-    (ask.latest - ask.earliest + 1) as usize
+    (ask.latest.0 - ask.earliest.0 + 1) as usize
 }
 
 // Rides along leg l, which leaves p, from p's settled row.
@@ -321,9 +327,9 @@ fn outset(start: usize, w: usize, cells: &mut [u32], low: &mut [usize])
 }
 
 // The minute table of a sound network file: 64 × cost + legs for each place and minute of the window.
-pub fn fill(net: &[u8], size: Size, start: u32, earliest: u32, latest: u32, cells: &mut [u32])
-    requires { ⌜ Fillable (now net) size start earliest latest (now cells) ⌝ }
-    ensures { λ r. ⌜ Filled (now (net .entry)) start earliest latest (now (cells .entry)) (now (cells .exit)) ⌝ }
+pub fn fill(net: &[u8], size: Size, start: u32, earliest: Minute, latest: Minute, cells: &mut [u32])
+    requires { ⌜ Fillable (now net) size start (earliest .0) (latest .0) (now cells) ⌝ }
+    ensures { λ r. ⌜ Filled (now (net .entry)) start (earliest .0) (latest .0) (now (cells .entry)) (now (cells .exit)) ⌝ }
 {
     let ask = Ask {
         start,

@@ -80,8 +80,8 @@ pub fn fill_for(net: &[u8], query: Query, table: &mut [u32]) -> Tabling
                         net,
                         size,
                         query.start,
-                        earliest.0,
-                        latest.0,
+                        earliest,
+                        latest,
                         &mut table[..cells],
                     );
                     Tabling::Filled(size)

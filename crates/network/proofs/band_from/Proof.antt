@@ -2,7 +2,7 @@ use native.Mathlib.Omega.{arith}
 use mathlib.Core.Path.{sym, ap, _∙_}
 use borrow.Author.Needs.{needs}
 use lib.Dec.{leb}
-use borrow.Author.Tests.{not-true, not-false}
+use borrow.Author.Tests.{leb-true, not-true, not-false}
 use Rattle.leg.specs.Ranges.{lastMinute, mostCents}
 use Rattle.leg.proofs.Laws.{minute-within, minute-beyond, cents-within, cents-beyond}
 use Rattle.source.specs.Source.{sourceOf}
@@ -68,13 +68,20 @@ returns-5 c =
     let m = minute-within (leb (f .result .a) lastMinute) (f .result .a) (c .before .before .before .before .before .before .before .from .given .0 .0) (sym (c .before .before .before .before .before .before .before .before .before .new .ensures) ∙ c .before .before .before .before .before .before .before .from .given .1) in
     sym (ap bandFound (band-dear (sourceOf (a .origin) (a .net .now) (a .list .now)) (a .at) (a .least) (f .result) (f .ensures) (omega (arith, c .before .before .before .before .before .before .before .before .before .before .if1 .left, c .before .before .before .if3 .left)) (m .0) (sym (c .before .before .before .before .before .rises .ensures) ∙ not-false _ (c .before .before .before .before .if2 .left)) (cents-beyond (leb (f .result .b) mostCents) (f .result .b) (sym (c .before .before .new2 .ensures) ∙ c .enum-told2 .given .1))))
 
-returns-6 : tie.Need-returns-6
-returns-6 c =
-    let a = c .before .before .before .before .before .before .before .before .before .before .before .before .before .before .before .args in
+new-requires-3 : tie.Need-new-requires-3
+new-requires-3 c κs =
     let f = c .before .before .before .before .before .before .before .before .before .before .before .before .band in
     let m = minute-within (leb (f .result .a) lastMinute) (f .result .a) (c .before .before .before .before .before .before .before .before .from .given .0 .0) (sym (c .before .before .before .before .before .before .before .before .before .before .new .ensures) ∙ c .before .before .before .before .before .before .before .before .from .given .1) in
     let p = cents-within (leb (f .result .b) mostCents) (f .result .b) (c .before .price .given .0 .0) (sym (c .before .before .before .new2 .ensures) ∙ c .before .price .given .1) in
-    rw (m .1, p .1) (sym (ap bandFound (band-sound (sourceOf (a .origin) (a .net .now) (a .list .now)) (a .at) (a .least) (f .result) (f .ensures) (omega (arith, c .before .before .before .before .before .before .before .before .before .before .before .if1 .left, c .before .before .before .before .if3 .left)) (m .0) (sym (c .before .before .before .before .before .before .rises .ensures) ∙ not-false _ (c .before .before .before .before .before .if2 .left)) (p .0))))
+    rw (m .1, p .1) (leb-true (f .result .a) lastMinute (m .0), leb-true (f .result .b) mostCents (p .0))
+
+returns-6 : tie.Need-returns-6
+returns-6 c =
+    let a = c .before .before .before .before .before .before .before .before .before .before .before .before .before .before .before .before .args in
+    let f = c .before .before .before .before .before .before .before .before .before .before .before .before .before .band in
+    let m = minute-within (leb (f .result .a) lastMinute) (f .result .a) (c .before .before .before .before .before .before .before .before .before .from .given .0 .0) (sym (c .before .before .before .before .before .before .before .before .before .before .before .new .ensures) ∙ c .before .before .before .before .before .before .before .before .before .from .given .1) in
+    let p = cents-within (leb (f .result .b) mostCents) (f .result .b) (c .before .before .price .given .0 .0) (sym (c .before .before .before .before .new2 .ensures) ∙ c .before .before .price .given .1) in
+    rw (c .new3 .ensures, m .1, p .1) (sym (ap bandFound (band-sound (sourceOf (a .origin) (a .net .now) (a .list .now)) (a .at) (a .least) (f .result) (f .ensures) (omega (arith, c .before .before .before .before .before .before .before .before .before .before .before .before .if1 .left, c .before .before .before .before .before .if3 .left)) (m .0) (sym (c .before .before .before .before .before .before .before .rises .ensures) ∙ not-false _ (c .before .before .before .before .before .before .if2 .left)) (p .0))))
 
 pub band-from-spec : {M : Type 1} → statement M
 band-from-spec =
@@ -93,4 +100,5 @@ band-from-spec =
     enum-known-price
     enum-told-2
     returns-5
+    new-requires-3
     returns-6)

@@ -3,6 +3,7 @@ use Prim.Native.Nat.{ℕ, suc, _+_, _-_, _*_, _≤_}
 use native.Mathlib.Omega.{arith}
 use mathlib.Core.Path.{_≡_, sym, ap, _∙_}
 use native.Mathlib.Nat.{sub-zero}
+use Rattle.leg.specs.declared.Leg.{Leg}
 use Rattle.source.specs.Source.{sourceOf}
 use Rattle.network.specs.Reading.{found}
 use Rattle.network.specs.Network.{edition1, bare, band, bands as bandsFrom}
@@ -26,7 +27,7 @@ places-requires c κs = search needs
 
 loop-holds : tie.Need-loop-holds Inv-loop μ-loop
 loop-holds c =
-    (omega arith, c .before .before .before .pre .1, c .before .before .before .pre .0, omega arith, rw (sub-zero, c .places .ensures))
+    (omega arith, c .before .before .before .pre .2, c .before .before .before .pre .0, omega arith, rw (sub-zero, c .places .ensures))
 
 band-from-requires : tie.Need-band-from-requires Inv-loop μ-loop
 band-from-requires c κs = search needs
@@ -91,6 +92,11 @@ loop-again c =
       l .inv .4 ∙ bands-more src _ _ (l .least) (l .place) (partLeg (a .head) (l .bands) (l .k)) left _ _ (this-band c),
     )
 
+new-requires : tie.Need-new-requires Inv-loop μ-loop
+new-requires c κs =
+    let h = c .before .before .before .before .before .pre in
+    (h .3, omega (arith, h .1), omega (arith, h .2))
+
 returns-2 : tie.Need-returns-2 Inv-loop μ-loop
 returns-2 c =
     let l = c .before .before .loop in
@@ -98,7 +104,8 @@ returns-2 c =
     let src = sourceOf (c .before .before .before .before .before .before .args .origin) (c .before .before .before .before .before .before .args .net .now) (c .before .before .before .before .before .before .args .list .now) in
     let none : a .head .count - l .k ≡ 0 = omega arith in
     let all : l .k ≡ a .head .count = omega arith in
-    ap (λ (n : ℕ). legFound (found (partLeg (a .head) (l .bands) n) (l .place))) (sym all)
+    ap (λ (x : Leg). legFound (found x (l .place))) (c .new .ensures)
+    ∙ ap (λ (n : ℕ). legFound (found (partLeg (a .head) (l .bands) n) (l .place))) (sym all)
     ∙ sym (ap legFound (l .inv .4 ∙ bands-done src _ (l .least) (l .place) (partLeg (a .head) (l .bands) (l .k)) none))
 
 pub bands-from-spec : {M : Type 1} → statement M
@@ -120,4 +127,5 @@ bands-from-spec =
     add-k
     loop-less
     loop-again
+    new-requires
     returns-2)

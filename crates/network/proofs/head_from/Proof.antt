@@ -2,11 +2,11 @@ use native.Mathlib.Omega.{arith}
 use mathlib.Core.Path.{sym, ap, _∙_}
 use borrow.Author.Needs.{needs}
 use lib.Dec.{leb}
-use Rattle.leg.specs.Ranges.{lastMinute}
-use Rattle.leg.proofs.Laws.{minute-within, minute-beyond}
+use Rattle.leg.specs.Ranges.{lastMinute, mostBands}
+use Rattle.leg.proofs.Laws.{minute-within, minute-beyond, count-within}
 use Rattle.source.specs.Source.{sourceOf}
 use Rattle.network.specs.Answers.{headFound}
-use Rattle.network.proofs.Heads.{head-none, head-far, head-one, head-away, head-two, head-long, head-three, head-few, head-many, head-sound}
+use Rattle.network.proofs.Heads.{head-none, head-far, head-one, head-away, head-two, head-long, head-three, head-miscounted, head-sound, count-beyond}
 use Rattle.network.proofs.head_from.Statement.{statement}
 use Rattle.network.proofs.head_from.Tie as tie
 
@@ -65,29 +65,30 @@ returns-7 c =
     let m = minute-within (leb (f .result .c) lastMinute) (f .result .c) (c .before .before .time .given .0 .0) (sym (c .before .before .before .before .new .ensures) ∙ c .before .before .time .given .1) in
     sym (ap headFound (head-three (sourceOf (a .origin) (a .net .now) (a .list .now)) (a .at) (a .places) (f .result) (f .ensures) (c .before .before .before .before .before .before .before .before .before .if2 .left) (c .before .before .before .before .before .before .if4 .left) (m .0) (c .if6 .taken)))
 
+band-count-requires : tie.Need-band-count-requires
+band-count-requires c κs = search needs
+
+enum-known-count : tie.Need-enum-known-count
+enum-known-count c = search needs
+
+enum-told-2 : tie.Need-enum-told-2
+enum-told-2 c = search needs
+
 returns-8 : tie.Need-returns-8
 returns-8 c =
-    let a = c .before .before .before .before .before .before .before .before .before .before .before .before .before .before .before .before .before .args in
-    let f = c .before .before .before .before .before .before .before .before .before .before .before .before .before .before .head in
-    let m = minute-within (leb (f .result .c) lastMinute) (f .result .c) (c .before .before .before .before .time .given .0 .0) (sym (c .before .before .before .before .before .before .new .ensures) ∙ c .before .before .before .before .time .given .1) in
-    sym (ap headFound (head-few (sourceOf (a .origin) (a .net .now) (a .list .now)) (a .at) (a .places) (f .result) (f .ensures) (c .before .before .before .before .before .before .before .before .before .before .before .if2 .left) (c .before .before .before .before .before .before .before .before .if4 .left) (m .0) (omega (arith, c .before .before .before .before .before .before .before .before .before .before .before .before .before .if1 .left, c .before .before .before .before .before .before .before .before .before .before .if3 .left, c .before .before .before .before .before .before .before .if5 .left, c .before .before .if6 .left)) (c .if7 .taken)))
+    let a = c .before .before .before .before .before .before .before .before .before .before .before .before .before .before .before .before .before .before .args in
+    let f = c .before .before .before .before .before .before .before .before .before .before .before .before .before .before .before .head in
+    let m = minute-within (leb (f .result .c) lastMinute) (f .result .c) (c .before .before .before .before .before .time .given .0 .0) (sym (c .before .before .before .before .before .before .before .new .ensures) ∙ c .before .before .before .before .before .time .given .1) in
+    let off = count-beyond (leb 1 (f .result .d)) (leb (f .result .d) mostBands) (f .result .d) (sym (c .before .before .band-count .ensures) ∙ c .enum-told2 .given .1) in
+    sym (ap headFound (head-miscounted (sourceOf (a .origin) (a .net .now) (a .list .now)) (a .at) (a .places) (f .result) (f .ensures) (c .before .before .before .before .before .before .before .before .before .before .before .before .if2 .left) (c .before .before .before .before .before .before .before .before .before .if4 .left) (m .0) (omega (arith, c .before .before .before .before .before .before .before .before .before .before .before .before .before .before .if1 .left, c .before .before .before .before .before .before .before .before .before .before .before .if3 .left, c .before .before .before .before .before .before .before .before .if5 .left, c .before .before .before .if6 .left)) off))
 
 returns-9 : tie.Need-returns-9
 returns-9 c =
     let a = c .before .before .before .before .before .before .before .before .before .before .before .before .before .before .before .before .before .before .before .args in
     let f = c .before .before .before .before .before .before .before .before .before .before .before .before .before .before .before .before .head in
     let m = minute-within (leb (f .result .c) lastMinute) (f .result .c) (c .before .before .before .before .before .before .time .given .0 .0) (sym (c .before .before .before .before .before .before .before .before .new .ensures) ∙ c .before .before .before .before .before .before .time .given .1) in
-    sym (ap headFound (head-many (sourceOf (a .origin) (a .net .now) (a .list .now)) (a .at) (a .places) (f .result) (f .ensures) (c .before .before .before .before .before .before .before .before .before .before .before .before .before .if2 .left) (c .before .before .before .before .before .before .before .before .before .before .if4 .left) (m .0) (omega (arith, c .before .before .before .before .before .before .before .before .before .before .before .before .before .before .before .if1 .left, c .before .before .before .before .before .before .before .before .before .before .before .before .if3 .left, c .before .before .before .before .before .before .before .before .before .if5 .left, c .before .before .before .before .if6 .left)) (c .before .before .if7 .left) (c .if8 .taken)))
-
-cast-t21 : tie.Need-cast-t21
-cast-t21 c = search needs
-
-returns-10 : tie.Need-returns-10
-returns-10 c =
-    let a = c .before .before .before .before .before .before .before .before .before .before .before .before .before .before .before .before .before .before .before .before .args in
-    let f = c .before .before .before .before .before .before .before .before .before .before .before .before .before .before .before .before .before .head in
-    let m = minute-within (leb (f .result .c) lastMinute) (f .result .c) (c .before .before .before .before .before .before .before .time .given .0 .0) (sym (c .before .before .before .before .before .before .before .before .before .new .ensures) ∙ c .before .before .before .before .before .before .before .time .given .1) in
-    rw (m .1) (sym (ap headFound (head-sound (sourceOf (a .origin) (a .net .now) (a .list .now)) (a .at) (a .places) (f .result) (f .ensures) (c .before .before .before .before .before .before .before .before .before .before .before .before .before .before .if2 .left) (c .before .before .before .before .before .before .before .before .before .before .before .if4 .left) (m .0) (omega (arith, c .before .before .before .before .before .before .before .before .before .before .before .before .before .before .before .before .if1 .left, c .before .before .before .before .before .before .before .before .before .before .before .before .before .if3 .left, c .before .before .before .before .before .before .before .before .before .before .if5 .left, c .before .before .before .before .before .if6 .left)) (c .before .before .before .if7 .left) (c .before .if8 .left))))
+    let n = count-within (leb 1 (f .result .d)) (leb (f .result .d) mostBands) (f .result .d) (c .before .count .given .0 .0) (sym (c .before .before .before .band-count .ensures) ∙ c .before .count .given .1) in
+    rw (m .1, n .2) (sym (ap headFound (head-sound (sourceOf (a .origin) (a .net .now) (a .list .now)) (a .at) (a .places) (f .result) (f .ensures) (c .before .before .before .before .before .before .before .before .before .before .before .before .before .if2 .left) (c .before .before .before .before .before .before .before .before .before .before .if4 .left) (m .0) (omega (arith, c .before .before .before .before .before .before .before .before .before .before .before .before .before .before .before .if1 .left, c .before .before .before .before .before .before .before .before .before .before .before .before .if3 .left, c .before .before .before .before .before .before .before .before .before .if5 .left, c .before .before .before .before .if6 .left)) (n .0) (n .1))))
 
 pub head-from-spec : {M : Type 1} → statement M
 head-from-spec =
@@ -104,7 +105,8 @@ head-from-spec =
     enum-told
     returns-6
     returns-7
+    band-count-requires
+    enum-known-count
+    enum-told-2
     returns-8
-    returns-9
-    cast-t21
-    returns-10)
+    returns-9)

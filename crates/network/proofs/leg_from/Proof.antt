@@ -6,6 +6,7 @@ use Rattle.network.specs.Reading.{found}
 use Rattle.network.specs.Network.{edition1, head}
 use Rattle.network.specs.Answers.{legFound}
 use Rattle.network.proofs.Legs.{leg-refused, leg-headed, head-of-sound, head-of-refused}
+use Rattle.network.proofs.Inversion.{head-inv, head-count, head-time}
 use Rattle.network.proofs.Near.{head-near}
 use Rattle.network.proofs.leg_from.Statement.{statement}
 use Rattle.network.proofs.leg_from.Tie as tie
@@ -33,7 +34,8 @@ bands-from-requires : tie.Need-bands-from-requires
 bands-from-requires c κs =
     let a = c .before .before .before .before .before .before .args in
     let h = head-near (a .origin) (a .net .now) (a .list .now) (a .places) (a .at) _ _ (this-head c) in
-    (omega (arith, h .0), h .1)
+    let r = head-inv (sourceOf (a .origin) (a .net .now) (a .list .now)) (a .at) edition1 (a .places) _ _ (this-head c) in
+    (omega (arith, h .0), head-count _ _ _ _ _ _ r .0, h .1, head-time _ _ _ _ _ _ r)
 
 returns : tie.Need-returns
 returns c =

@@ -17,8 +17,5 @@ mul-band c = search needs
 array-copy-out-band : tie.Need-array-copy-out-band
 array-copy-out-band c = search needs
 
-cast-result : tie.Need-cast-result
-cast-result c = search needs
-
 pub band-start-spec : {M : Type 1} → statement M
-band-start-spec = tie.close (tie.spec mul-band array-copy-out-band cast-result returns returns-2)
+band-start-spec = tie.close (tie.spec mul-band array-copy-out-band returns returns-2)

@@ -13,18 +13,18 @@ returns c =
     let a = c .before .before .before .before .before .before .before .before .before .before .before .before .before .args in
     let lo = c .before .before .before .before .before .before .before .band-start .ensures in
     let hi = c .before .before .before .before .band-start2 .ensures in
-    rode-none (a .leg) (a .earliest) (a .w) (a .from) (a .row .now) (a .cells .now) (bandStart (a .leg) (a .k)) (bandStart (a .leg) (a .k + 1))
+    rode-none (a .leg) (a .earliest .0) (a .w) (a .from) (a .row .now) (a .cells .now) (bandStart (a .leg) (a .k)) (bandStart (a .leg) (a .k + 1))
     (λ i f l h b. omega arith)
 
 returns-2 : tie.Need-returns-2
 returns-2 c =
     let start = c .before .before .before .before .before .before .before .before .before .before .before .before .before .before .before .before .before .before .before in
     let a = start .args in
-    rode-band (a .leg) (a .earliest) (a .w) (a .from) (a .row .now) (a .cells .now) (c .before .before .lower-row .last .0) (a .k) _ _ _ (c .before .before .lower-row .result)
+    rode-band (a .leg) (a .earliest .0) (a .w) (a .from) (a .row .now) (a .cells .now) (c .before .before .lower-row .last .0) (a .k) _ _ _ (c .before .before .lower-row .result)
     (c .before .before .lower-row .ensures) (start .pre .4) (start .pre .0) (start .pre .1)
-    (c .before .before .before .before .before .before .before .before .before .before .before .greater .ensures ∙ rw (c .before .before .before .before .before .before .before .before .before .before .before .before .less .ensures, c .before .before .before .before .before .before .before .before .before .before .before .before .before .band-start .ensures))
-    (c .before .before .before .before .before .before .before .lesser .ensures ∙ rw (c .before .before .before .before .before .before .before .before .before .less2 .ensures, c .before .before .before .before .before .before .before .before .less3 .ensures, c .before .before .before .before .before .before .before .before .before .before .band-start2 .ensures))
-    (omega (arith, c .before .before .before .wide .ensures .0))
+    (c .before .before .before .before .before .before .before .before .before .before .before .greater .ensures ∙ rw (c .before .before .before .before .before .before .before .before .before .before .before .before .column .ensures, c .before .before .before .before .before .before .before .before .before .before .before .before .before .band-start .ensures))
+    (c .before .before .before .before .before .before .before .lesser .ensures ∙ rw (c .before .before .before .before .before .before .before .before .before .column2 .ensures, c .before .before .before .before .before .before .before .before .less .ensures, c .before .before .before .before .before .before .before .before .before .before .band-start2 .ensures))
+    (omega (arith, c .before .before .before .adds .ensures .0))
 
 mul-band : tie.Need-mul-band
 mul-band c = search needs
@@ -38,8 +38,8 @@ cast-time c = search needs
 band-start-requires : tie.Need-band-start-requires
 band-start-requires c κs = search needs
 
-less-requires : tie.Need-less-requires
-less-requires c κs = search needs
+column-requires : tie.Need-column-requires
+column-requires c κs = search needs
 
 greater-requires : tie.Need-greater-requires
 greater-requires c κs = search needs
@@ -50,11 +50,11 @@ add-band-start c = search needs
 band-start-requires-2 : tie.Need-band-start-requires-2
 band-start-requires-2 c κs = search needs
 
-less-requires-2 : tie.Need-less-requires-2
-less-requires-2 c κs = search needs
+column-requires-2 : tie.Need-column-requires-2
+column-requires-2 c κs = search needs
 
-less-requires-3 : tie.Need-less-requires-3
-less-requires-3 c κs = search needs
+less-requires : tie.Need-less-requires
+less-requires c κs = search needs
 
 lesser-requires : tie.Need-lesser-requires
 lesser-requires c κs = search needs
@@ -62,14 +62,8 @@ lesser-requires c κs = search needs
 cast-lower-row : tie.Need-cast-lower-row
 cast-lower-row c = search needs
 
-wide-requires : tie.Need-wide-requires
-wide-requires c κs = search needs
-
-mul-lower-row : tie.Need-mul-lower-row
-mul-lower-row c = search needs
-
-add-lower-row : tie.Need-add-lower-row
-add-lower-row c = search needs
+adds-requires : tie.Need-adds-requires
+adds-requires c κs = search needs
 
 lower-row-requires : tie.Need-lower-row-requires
 lower-row-requires c κs = search needs
@@ -85,18 +79,16 @@ ride-band-spec =
     array-copy-out-band
     cast-time
     band-start-requires
-    less-requires
+    column-requires
     greater-requires
     add-band-start
     band-start-requires-2
-    less-requires-2
-    less-requires-3
+    column-requires-2
+    less-requires
     lesser-requires
     returns
     cast-lower-row
-    wide-requires
-    mul-lower-row
-    add-lower-row
+    adds-requires
     lower-row-requires
     same-length
     returns-2)
