@@ -41,6 +41,7 @@ module _ (s : List ℕ) (bit width : ℕ) (minutes prices : List ℕ) (at k minu
       at-minute j l (yes e) =
           subst (λ (x : ℕ). slot (set minutes (at + k) minute) at x ≡ field s (bit + x * (12 + width)) 12) (sym e)
           (this-slot minutes at k minute room ∙ minute-of)
+
       at-price : (j : ℕ) → j < k + 1 → Dec (j ≡ k) → slot (set prices (at + k) price) at j ≡ field s (bit + j * (12 + width) + 12) width
       at-price j l (no n) = other-slot prices at j k price n ∙ h .price-is j (omega arith)
       at-price j l (yes e) =
@@ -65,8 +66,9 @@ carded s bit width count size old minutes prices at few blank written kept = rec
 }
 
 -- a band's two fields, read together
-pub band-start : (s : List ℕ) (at both : ℕ) → both ≡ field s at 28 → both / 65536 ≡ field s at 12
-band-start s at both e = omega (arith, e, field-split s at 12 16, field-below s (at + 12) 16)
+pub band-split : (s : List ℕ) (at both : ℕ) → both ≡ field s at 28 → (both ≡ field s at 12 * 65536 + field s (at + 12) 16) × (field s (at + 12) 16 < 65536)
+band-split s at both e = (e ∙ field-split s at 12 16, field-below s (at + 12) 16)
 
-pub band-toll : (s : List ℕ) (at both : ℕ) → both ≡ field s at 28 → both % 65536 ≡ field s (at + 12) 16
-band-toll s at both e = omega (arith, e, field-split s at 12 16, field-below s (at + 12) 16)
+-- slot k under another index
+pub slot-is : (xs : List ℕ) (at i k : ℕ) → i ≡ at + k → getD xs i 0 ≡ slot xs at k
+slot-is xs at i k e = ap (λ (n : ℕ). getD xs n 0) e

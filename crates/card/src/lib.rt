@@ -65,7 +65,7 @@ fn begun(minutes: &[u32], at: usize, size: usize, minute: Minute) -> usize
     let mut slots = 0u32;
     let mut k = 0;
     while k < size {
-        slots += (4096 + now - minutes[at + k]) / 4096;
+        slots += (Minute::NEVER + now - minutes[at + k]) / Minute::NEVER;
         k += 1;
     }
     slots as usize

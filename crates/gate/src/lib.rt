@@ -242,7 +242,7 @@ fn obeys(
     if !starts(sheet, index[start], earliest, latest) {
         return false;
     }
-    let mut minutes = [4096u32; 1024];
+    let mut minutes = [Minute::NEVER; 1024];
     let mut prices = [0u32; 1024];
     rule_cards::lay(
         sheet,

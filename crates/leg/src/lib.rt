@@ -41,6 +41,9 @@ pub enum CountFound {
 }
 
 impl Minute {
+    // A number of 13 bits, so that no field holds it: a minute that never comes.
+    pub const NEVER: u32 = 4096;
+
     pub const LAST: u32 = 2879;
 
     // How many minutes there are, 0 and the last among them.

@@ -8,11 +8,9 @@ ghost use Rattle.sheet_file.specs.InPlace.{stepsAt, placeAt, countAt};
 ghost use Rattle.rule_b.specs.Rule.{Is, RuleB, InOrder};
 ghost use Rattle.rule_b.specs.InFile.{legAt, LegThere};
 ghost use Rattle.rule_b.specs.Cursor.{firstOf, shown, startOr, Held, Begun, Moved, Banded, Covers, Or, PlaceAsked, LegAsked};
+use card::Shown;
 use leg::Cents;
 use leg::Minute;
-
-// Later than every minute.
-const NEVER: u32 = 4096;
 
 // A place in a list of steps: the bit of the next step, how many are left, its minute; and the cost of the last step passed, if there is one.
 pub struct Cursor {
@@ -36,7 +34,7 @@ fn first(sheet: &[u8], at: usize, left: usize) -> Minute
     ensures { λ r. ⌜ r .0 ≡ firstOf (stepsAt (now (sheet .entry)) at left) ⌝ }
 {
     if left == 0 {
-        return Minute(NEVER);
+        return Minute(Minute::NEVER);
     }
     Minute(reader::field(sheet, at, 12))
 }
@@ -84,20 +82,14 @@ fn forward(sheet: &[u8], cursor: Cursor, minute: Minute) -> Cursor
     }
 }
 
-// The value of a place at a minute, and whether it has one.
-pub struct Value {
-    pub has: bool,
-    pub price: Cents,
-}
-
 // The value at a minute of the place whose count of steps stands at a bit.
-pub fn value_at(sheet: &[u8], place: u32, minute: Minute, earliest: Minute, latest: Minute) -> Value
+pub fn value_at(sheet: &[u8], place: u32, minute: Minute, earliest: Minute, latest: Minute) -> Shown
     requires { ⌜ PlaceAsked (now sheet) place (window (earliest .0) (latest .0)) × (minute .0 < 4096) ⌝ }
     ensures { λ r. ⌜ value (placeAt (now (sheet .entry)) place) (minute .0) ≡ shown (r .has) (r .price .0) ⌝ }
 {
     let cursor = forward(sheet, begin(sheet, place), minute);
     let price = cursor.price;
-    Value {
+    Shown {
         has: cursor.has,
         price,
     }
@@ -109,7 +101,7 @@ fn start_of(net: &[u8], leg: usize, count: usize, k: usize) -> Minute
     ensures { λ r. ⌜ r .0 ≡ startOr (legAt (now (net .entry)) leg) k ⌝ }
 {
     if count <= k {
-        return Minute(NEVER);
+        return Minute(Minute::NEVER);
     }
     Minute(reader::field(net, leg + 28 + 28 * k, 12))
 }

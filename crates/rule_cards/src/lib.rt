@@ -14,6 +14,11 @@ use card::Shown;
 use leg::Cents;
 use leg::Minute;
 
+// How many steps a place's card has room for, and how many bands a leg's.
+const STEPS: usize = 16;
+
+const BANDS: usize = 8;
+
 // Is there a value at the arrival, and does it cover a value at the departure and the toll?
 fn covered(from: Cents, toll: Cents, to: Shown) -> bool
     ensures { λ r. ⌜ Is r (AtMost (shown (to .has) (to .price .0)) (from .0 + toll .0)) ⌝ }
@@ -45,8 +50,8 @@ fn step_obeys(
         return true;
     }
     let price = prices[from + k];
-    let toll = card::look(starts, tolls, 0, 8, Minute(departure));
-    let there = card::look(minutes, prices, to, 16, Minute(arrival));
+    let toll = card::look(starts, tolls, 0, BANDS, Minute(departure));
+    let there = card::look(minutes, prices, to, STEPS, Minute(arrival)); // after a step
     covered(Cents(price), toll.price, there)
 }
 
@@ -71,8 +76,8 @@ fn band_obeys(
         return true;
     }
     let toll = tolls[k];
-    let here = card::look(minutes, prices, from, 16, Minute(departure));
-    let there = card::look(minutes, prices, to, 16, Minute(arrival));
+    let here = card::look(minutes, prices, from, STEPS, Minute(departure));
+    let there = card::look(minutes, prices, to, STEPS, Minute(arrival)); // after a band's start
     if !here.has {
         return true; // no value at the departure
     }
@@ -187,7 +192,7 @@ fn cards_obey(
 {
     let time = Minute(reader::field(net, leg + 12, 12));
     let bands = reader::field(net, leg + 24, 4) as usize;
-    let mut starts = [4096u32; 8];
+    let mut starts = [Minute::NEVER; 8];
     let mut tolls = [0u32; 8];
     card::fill_bands(net, leg + 28, bands, &mut starts, &mut tolls, 0);
     all_obey(
@@ -235,10 +240,19 @@ pub fn leg_obeys(
 {
     let steps = reader::field(sheet, i as usize, 12) as usize;
     let others = reader::field(sheet, j as usize, 12) as usize;
-    if 16 < most(steps, others) {
+    if STEPS < most(steps, others) {
         return rule_b::leg_obeys(net, leg, sheet, i, j, earliest, latest);
     }
-    cards_obey(net, leg, minutes, prices, 16 * from, 16 * to, steps, latest)
+    cards_obey(
+        net,
+        leg,
+        minutes,
+        prices,
+        STEPS * from,
+        STEPS * to,
+        steps,
+        latest,
+    )
 }
 
 // Puts the steps of the place whose count stands at a bit on the card from slot `at` on, if it has room for them.
@@ -248,7 +262,7 @@ fn lay_place(sheet: &[u8], place: u32, minutes: &mut [u32], prices: &mut [u32], 
         × Kept (now (minutes .entry)) (now (minutes .exit)) at 16 × Kept (now (prices .entry)) (now (prices .exit)) at 16 ⌝ }
 {
     let steps = reader::field(sheet, place as usize, 12) as usize;
-    if 16 < steps {
+    if STEPS < steps {
         return;
     }
     let first = place as usize + 12;
@@ -262,7 +276,7 @@ pub fn lay(sheet: &[u8], index: &[u32; 64], places: usize, minutes: &mut [u32], 
 {
     let mut p = 0;
     while p < places {
-        lay_place(sheet, index[p], minutes, prices, 16 * p);
+        lay_place(sheet, index[p], minutes, prices, STEPS * p);
         p += 1;
     }
 }

@@ -11,7 +11,7 @@ use leg::Cents;
 use leg::Minute;
 
 // A place has at most one step a minute.
-const MOST_STEPS: usize = Minute::LAST as usize + 1;
+const MOST_STEPS: usize = Minute::COUNT as usize;
 
 // A step, where it is sound.
 pub struct StepFound {

@@ -6,7 +6,7 @@ use mathlib.Core.Path.{_≡_, _∙_, ap}
 use lib.ListN.{length}
 use Rattle.bits.specs.Field.{field}
 use Rattle.card.specs.Card.{Written, Kept}
-use Rattle.card.proofs.Filling.{kept-all, kept-more, written-none, written-more, written-at, band-start, band-toll}
+use Rattle.card.proofs.Filling.{kept-all, kept-more, written-none, written-more, written-at, band-split}
 use Rattle.card.proofs.fill_bands.Statement.{statement}
 use Rattle.card.proofs.fill_bands.Tie as tie
 
@@ -44,11 +44,12 @@ loop-again c =
     let l = c .before .before .loop in
     let room : a .at + l .k < length (l .starts) = omega (arith, l .inv .2 .size, s .pre .4) in
     let room′ : a .at + l .k < length (l .tolls) = omega (arith, l .inv .3 .size, s .pre .5) in
-    let here : a .bit + 28 * l .k ≡ a .bit + l .k * 28 = omega arith in (
+    let here : a .bit + 28 * l .k ≡ a .bit + l .k * 28 = omega arith in
+    let split = band-split (a .net .now) (a .bit + l .k * 28) _ (c .field .ensures ∙ ap (λ (x : ℕ). field (a .net .now) x 28) here) in (
       omega arith,
       written-more (a .net .now) (a .bit) 16 (l .starts) (l .tolls) (a .at) (l .k) _ _ (l .inv .1) room room′
-      (band-start (a .net .now) _ _ (c .field .ensures) ∙ ap (λ (x : ℕ). field (a .net .now) x 12) here)
-      (band-toll (a .net .now) _ _ (c .field .ensures) ∙ ap (λ (x : ℕ). field (a .net .now) (x + 12) 16) here),
+          (omega (arith, split .0, split .1))
+          (omega (arith, split .0, split .1)),
       kept-more (a .starts .now) (l .starts) (a .at) (l .k) _ (a .count) (l .inv .2) (omega arith),
       kept-more (a .tolls .now) (l .tolls) (a .at) (l .k) _ (a .count) (l .inv .3) (omega arith),
     )

@@ -50,8 +50,8 @@ loop-again c =
     let here : a .bit + 44 * l .k ≡ a .bit + l .k * 44 = omega arith in (
       omega arith,
       written-more (a .sheet .now) (a .bit) 32 (l .minutes) (l .prices) (a .at) (l .k) _ _ (l .inv .1) room room′
-      (c .before .field .ensures ∙ ap (λ (x : ℕ). field (a .sheet .now) x 12) here)
-      (c .field2 .ensures ∙ ap (λ (x : ℕ). field (a .sheet .now) (x + 12) 32) here),
+          (c .before .field .ensures ∙ ap (λ (x : ℕ). field (a .sheet .now) x 12) here)
+          (c .field2 .ensures ∙ ap (λ (x : ℕ). field (a .sheet .now) (x + 12) 32) here),
       kept-more (a .minutes .now) (l .minutes) (a .at) (l .k) _ (a .count) (l .inv .2) (omega arith),
       kept-more (a .prices .now) (l .prices) (a .at) (l .k) _ (a .count) (l .inv .3) (omega arith),
     )

@@ -1,9 +1,9 @@
 -- `card::look`: the last slot that has begun is the one before the count.
 use borrow.Author.Needs.{needs}
-use Prim.Native.Nat.{_+_, _-_, _≤_}
+use Prim.Native.Nat.{_+_}
 use native.Mathlib.Omega.{arith}
-use mathlib.Core.Path.{_≡_, refl, ap}
-use lib.ListN.{getD}
+use mathlib.Core.Path.{refl}
+use Rattle.card.proofs.Filling.{slot-is}
 use Rattle.card.proofs.look.Statement.{statement}
 use Rattle.card.proofs.look.Tie as tie
 
@@ -24,7 +24,7 @@ returns-2 c =
       slots = n;
       begun = c .before .before .begun .ensures;
       nothing = λ e. absurd (c .before .if1 .left e);
-      last = λ k e. (refl, let same : a .at + n - 1 ≡ a .at + k = omega arith in ap (λ i. getD (a .prices .now) i 0) same);
+      last = λ k e. (refl, slot-is (a .prices .now) (a .at) _ k (omega (arith, e)));
     }
 
 begun-requires : tie.Need-begun-requires

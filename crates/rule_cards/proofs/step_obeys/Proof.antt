@@ -26,10 +26,10 @@ returns-2 c i j leg steps bands b low =
     let toll = c .before .before .look in
     let there = c .before .look2 in
     let soon : d + a .time .0 ≤ a .latest .0 = omega (arith, c .before .before .before .before .if1 .left) in
-    let arrives = b .j-held (d + a .time .0) (there .result) (omega (arith, soon, s .pre .5)) (there .ensures) in
-    rule-tested leg i j d (d + a .time .0) (a .time .0) (some price) (toll .result .price .0) (b .time-is) refl (b .step-is (a .k) low)
+    let arrives = b .j-held _ (there .result) (omega (arith, soon, s .pre .5)) (there .ensures) in
+    rule-tested leg i j d _ (a .time .0) (some price) (toll .result .price .0) (b .time-is) (omega arith) (b .step-is (a .k) low)
     (b .leg-held d (toll .result) (omega (arith, soon, s .pre .5)) (toll .ensures)) (a .latest .0) (c .covered .result) soon
-    (covers-some true price (toll .result .price .0) (value j (d + a .time .0)) (shown (there .result .has) (there .result .price .0)) (c .covered .result) refl arrives (c .covered .ensures))
+    (covers-some true price (toll .result .price .0) (value j _) (shown (there .result .has) (there .result .price .0)) (c .covered .result) refl arrives (c .covered .ensures))
 
 add-departure : tie.Need-add-departure
 add-departure c = omega (arith, c .before .before .before .before .pre .0 .card .near, c .before .before .before .before .pre .3)
