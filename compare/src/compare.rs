@@ -31,6 +31,8 @@ pub struct Wish {
 #[derive(Default)]
 pub struct Tally {
     counts: [[u64; 16]; 5],
+    /// How many of our sheets have at most 15, just 16, just 17 and more steps at the place that has most.
+    sheets: [u64; 4],
 }
 
 impl Tally {
@@ -40,6 +42,11 @@ impl Tally {
 
     fn of(&self, call: Call, number: u32) -> u64 {
         self.counts[call as usize][number as usize]
+    }
+
+    fn sheet(&mut self, sheet: &Sheet) {
+        let most = sheet.rows.iter().map(Vec::len).max().unwrap_or(0);
+        self.sheets[most.saturating_sub(15).min(3)] += 1;
     }
 
     fn total(&self) -> u64 {
@@ -71,6 +78,8 @@ impl Tally {
             }
             println!();
         }
+        let [few, sixteen, seventeen, more] = self.sheets;
+        println!("sheets by the most steps of a place: {few} up to 15, {sixteen} with 16, {seventeen} with 17, {more} with more");
         untried
     }
 }
@@ -170,7 +179,8 @@ impl Run<'_> {
             1 => self.largest_plans(&mut dice),
             2..=5 => self.chains(&mut dice),
             6..=9 => self.middle_plans(&mut dice),
-            10..=29 => self.small_files(&mut dice),
+            10..=13 => self.stairs(&mut dice),
+            14..=29 => self.small_files(&mut dice),
             k => self.small_plans(&mut dice, k % 2 == 0),
         }
     }
@@ -402,6 +412,17 @@ impl Run<'_> {
         self.exact_and_gate(dice, &net, query)
     }
 
+    /// Places with about sixteen steps, where the gate goes one way or the other.
+    fn stairs(&mut self, dice: &mut Dice) -> Result<(), String> {
+        if !self.wants_plans() {
+            return Ok(());
+        }
+        let window = dice.between(30, 400);
+        let net = make::stairs(dice, window);
+        let query = Query { start: 0, end: (net.places - 1) as u32, earliest: dice.between(0, 3), latest: window };
+        self.exact_and_gate(dice, &net, query)
+    }
+
     fn largest_plans(&mut self, dice: &mut Dice) -> Result<(), String> {
         if !self.wants_plans() {
             return Ok(());
@@ -420,6 +441,7 @@ impl Run<'_> {
         self.plan_and_sheet(dice, &file, query, cells + 3, [made.plan.len() - 1, made.sheet.len() - 1])?;
         self.plan_and_sheet(dice, &file, query, cells - 1, [made.plan.len(), made.sheet.len()])?;
         self.gate(&file, &made.plan, &made.sheet)?;
+        self.tally.sheet(&made.sheet_file);
         for _ in 0..6 {
             let plan = changed_plan(dice, &made.plan_file);
             self.gate(&file, &plan, &made.sheet)?;

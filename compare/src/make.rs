@@ -157,6 +157,29 @@ pub fn chain(dice: &mut Dice, places: usize, time: u32, toll: u32) -> Network {
     Network { places, legs }
 }
 
+/// Two to five places in a row, with parallel legs whose tolls fall in the course of the window: places with many steps, often about sixteen.
+pub fn stairs(dice: &mut Dice, window: u32) -> Network {
+    let places = if dice.once_in(2) { 2 } else { 3 + dice.below(3) };
+    let mut legs = Vec::new();
+    for from in 0..places - 1 {
+        let falls = if dice.once_in(3) { dice.between(1, 60) } else { dice.between(14, 18) };
+        let mut minutes: Vec<u32> = (0..falls).map(|_| dice.between(0, window)).collect();
+        minutes.sort_unstable();
+        minutes.dedup();
+        let time = dice.between(0, 3);
+        for some in minutes.chunks(7) {
+            let mut bands = vec![Band { start: 0, toll: 65_535 }];
+            let falling = |&start: &u32| Band { start, toll: 60_000 - 5 * start - dice.between(0, 4) };
+            bands.extend(some.iter().filter(|&&start| start > 0).map(falling));
+            legs.push(Leg { from, to: from + 1, time, bands });
+        }
+    }
+    for k in (1..legs.len()).rev() {
+        legs.swap(k, dice.below(k + 1));
+    }
+    Network { places, legs }
+}
+
 /// A query inside the minutes of interest.
 pub fn query(dice: &mut Dice, net: &Network, from: u32, window: u32) -> Query {
     let last = LAST_MINUTE.min(from + window);
