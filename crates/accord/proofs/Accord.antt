@@ -36,7 +36,8 @@ use Rattle.sheet_file.proofs.ReadsBack.{sheet-reads-back}
 use Rattle.sheet_call.specs.Sheet.{Right as SheetRight, some, none as no-plan, Output as SheetOutput, Answered as SheetAnswered}
 use Rattle.gate.specs.Gate.{theory, Known, GateSays}
 use Rattle.gate.proofs.Theorems.{askable, least-accepted, none-accepted}
-use Rattle.accord.specs.Accord.{Front, Wrote, OursAccepted}
+use Rattle.accord.specs.Accord.{Front, Wrote, toward, OursAccepted}
+use Rattle.accord.proofs.Ends.{ours-toward}
 
 -- ---- the file that was written is the whole file
 
@@ -108,49 +109,52 @@ module _ (N : Network) (q : Query) where
 
 -- ---- both files pass
 
-module _ (net : List ℕ) (q : Query) (plan-file sheet-file : List ℕ) (r : Answer) (g : GateSays net plan-file sheet-file r) where
+module _ (net : List ℕ) (q : Query) (other : ℕ) (plan-file sheet-file : List ℕ) (r : Answer) (g : GateSays net plan-file sheet-file r) where
   -- of a network and a query that both calls served
   module _ (n : NetworkFile) (end : ℕ) (is : ofFile net ≡ found n end) (cells : ℕ) (p : Passed (n .places) q cells) where
     known : Known (n .places) q
     known = record { start = p .start; end = p .end; earliest = p .earliest; latest = p .latest }
 
-    passes : PlanWritten (theory n) q plan-file → SheetWritten (theory n) q sheet-file → r ≡ Answer.Done 0
+    passes : PlanWritten (theory n) q plan-file → SheetWritten (theory n) (toward q other) sheet-file → r ≡ Answer.Done 0
     passes a s = at (a .right) (record { file = a .is; allowed = plan-allowed (theory n) q (askable net n end q is known (p .window)) (a .right) })
       where
+        ours : OurSheet (theory n) q (s .sheet)
+        ours = ours-toward (theory n) q other (s .sheet) (s .ours)
+
         reads : sheetOf (n .places) q sheet-file ≡ found (s .sheet) (bitsOf (sheetFields (s .sheet)))
         reads =
-            subst (λ (k : ℕ). sheetOf k q sheet-file ≡ found (s .sheet) (bitsOf (sheetFields (s .sheet)))) (s .ours .size)
-            (sheet-reads-back sheet-file q (p .latest) (s .sheet) (λ i low. s .ours .steps i (omega (arith, s .ours .size))) (s .is))
+            subst (λ (k : ℕ). sheetOf k q sheet-file ≡ found (s .sheet) (bitsOf (sheetFields (s .sheet)))) (ours .size)
+            (sheet-reads-back sheet-file q (p .latest) (s .sheet) (λ i low. ours .steps i (omega (arith, ours .size))) (s .is))
 
         at : {f : PlanFile} {given : ℕ → PlanAnswer} → Right (theory n) q f given → Says plan-file f → r ≡ Answer.Done 0
         at (plan rides named) says =
-            least-accepted net plan-file sheet-file n end is _ says known (p .window) (s .sheet) _ reads (s .ours) r g refl
+            least-accepted net plan-file sheet-file n end is _ says known (p .window) (s .sheet) _ reads ours r g refl
             (record { feasible = named .feasible; sum = refl })
             (λ other f. less-then-le (cost (theory n) rides) (cost (theory n) other) (named .first other f))
         at (none never) says =
-            none-accepted net plan-file sheet-file n end is _ says known (p .window) (s .sheet) _ reads (s .ours) r g refl never
+            none-accepted net plan-file sheet-file n end is _ says known (p .window) (s .sheet) _ reads ours r g refl never
 
   module _ (table₁ table₁′ out₁ out₁′ : List ℕ) (answer₁ : PlanAnswer) (w₁ : Wrote answer₁ out₁′ plan-file)
       (table₂ table₂′ out₂ out₂′ : List ℕ) (answer₂ : PlanAnswer) (w₂ : Wrote answer₂ out₂′ sheet-file) where
     by-network : (x : Found NetworkFile) → ofFile net ≡ x
         → Comes Answered (judged x q (length table₁)) q table₁ table₁′ out₁ out₁′ answer₁
-        → Comes SheetAnswered (judged x q (length table₂)) q table₂ table₂′ out₂ out₂′ answer₂
+        → Comes SheetAnswered (judged x (toward q other) (length table₂)) (toward q other) table₂ table₂′ out₂ out₂′ answer₂
         → r ≡ Answer.Done 0
     by-network (refused why) is c d = wrote-none answer₁ why out₁′ plan-file (c .answer-is) w₁
-    by-network (found n end) is c d = by-judgement (judgement (n .places) q (length table₁)) (judgement (n .places) q (length table₂)) refl c d
+    by-network (found n end) is c d = by-judgement (judgement (n .places) q (length table₁)) (judgement (n .places) (toward q other) (length table₂)) refl c d
       where
         by-judgement : (i j : Judgement) → judgement (n .places) q (length table₁) ≡ i
             → Comes Answered (with-network i (theory n)) q table₁ table₁′ out₁ out₁′ answer₁
-            → Comes SheetAnswered (with-network j (theory n)) q table₂ table₂′ out₂ out₂′ answer₂
+            → Comes SheetAnswered (with-network j (theory n)) (toward q other) table₂ table₂′ out₂ out₂′ answer₂
             → r ≡ Answer.Done 0
         by-judgement (Refuse why) j e c d = wrote-none answer₁ why out₁′ plan-file (c .answer-is) w₁
         by-judgement Serve (Refuse why) e c d = wrote-none answer₂ why out₂′ sheet-file (d .answer-is) w₂
         by-judgement Serve Serve e c d =
             passes n end is (length table₁) (passed (n .places) q (length table₁) e)
             (plan-written (theory n) q out₁ out₁′ answer₁ plan-file (c .answered) w₁)
-            (sheet-written (theory n) q out₂ out₂′ answer₂ sheet-file (d .answered) w₂)
+            (sheet-written (theory n) (toward q other) out₂ out₂′ answer₂ sheet-file (d .answered) w₂)
 
 -- WHAT WE WRITE, WE ACCEPT
 pub ours-accepted : OursAccepted
-ours-accepted net q plan-file sheet-file table₁ table₁′ out₁ out₁′ answer₁ p w₁ table₂ table₂′ out₂ out₂′ answer₂ s w₂ r g =
-    by-network net q plan-file sheet-file r g table₁ table₁′ out₁ out₁′ answer₁ w₁ table₂ table₂′ out₂ out₂′ answer₂ w₂ (ofFile net) refl (p .comes) (s .comes)
+ours-accepted net q other plan-file sheet-file table₁ table₁′ out₁ out₁′ answer₁ p w₁ table₂ table₂′ out₂ out₂′ answer₂ s w₂ r g =
+    by-network net q other plan-file sheet-file r g table₁ table₁′ out₁ out₁′ answer₁ w₁ table₂ table₂′ out₂ out₂′ answer₂ w₂ (ofFile net) refl (p .comes) (s .comes)

@@ -10,6 +10,7 @@ use Rattle.answer.specs.declared.Refusal.the-variants.{Short, Edition, Range, O
 use Rattle.leg.specs.declared.Band.{Band}
 use Rattle.leg.specs.Ranges.{lastMinute, mostCents, minute, bandOf}
 use Rattle.source.specs.Source.{Source, both}
+use Rattle.source.proofs.Laws.{both-true}
 use Rattle.network.specs.declared.Head.{Head}
 use Rattle.network.specs.declared.Top.{Top}
 use Rattle.network.specs.Reading.{Found, refused, found, next, pick, field, end}
@@ -33,11 +34,6 @@ module _ {B : Type 0} (b : B) (end : ℕ) where
       → (a : A) × (at : ℕ) × (m ≡ found a at) × (k a at ≡ found b end)
   inner-step (refused why) k e = let z : _≡_ {A = ℕ} 0 1 = cc in absurd (omega arith)
   inner-step (found a at) k e = (a, at, refl, e)
-
--- both halves of a test
-pub both-true : (a b : Bool) → both a b ≡ true → (a ≡ true) × (b ≡ true)
-both-true true b e = (refl, e)
-both-true false b e = (e, cc)
 
 module _ (src : Source) (at : ℕ) where
   -- a band that was found: both fields are there and pass their tests

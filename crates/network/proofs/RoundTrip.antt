@@ -15,7 +15,7 @@ use Rattle.source.specs.Source.{Source, fileOf, listOf}
 use Rattle.network.specs.Reading.{found}
 use Rattle.network.specs.Network.{Network, edition1, network, ofFile, ofList}
 use Rattle.network.specs.Fields.{fieldsOf, numbersOf}
-use Rattle.network.proofs.Inversion.{both-true}
+use Rattle.source.proofs.Laws.{both-true}
 use Rattle.network.proofs.Carries.{holds-of-carried, carried-of-holds, values-of-carried, carried-of-values}
 use Rattle.network.proofs.Traces.{network-trace}
 

@@ -11,9 +11,6 @@ use network::Size;
 use plan_file::Query;
 use tabled::Tabling;
 
-// What a cell holds where there is no plan.
-const NO_PLAN: u32 = 4294967295;
-
 // 9, 10 and 0, from a filled table.
 fn answer(net: &[u8], size: Size, query: Query, cells: &[u32], out: &mut [u8]) -> PlanAnswer
     requires { ⌜ Tabled (now net) size query (now cells) ⌝ }
@@ -21,7 +18,7 @@ fn answer(net: &[u8], size: Size, query: Query, cells: &[u32], out: &mut [u8]) -
 {
     let end = query.end;
     let latest = query.latest;
-    if walk::cell(cells, query, end, latest) == NO_PLAN {
+    if walk::cell(cells, query, end, latest) == rows::NO_PLAN {
         if out.len() < 12 {
             return PlanAnswer::Refused(Refusal::Room);
         }

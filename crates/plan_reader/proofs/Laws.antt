@@ -10,7 +10,8 @@ use lib.ListN.{length, getD}
 use Rattle.bits.specs.Field.{field}
 use Rattle.bits.specs.Packed.{bytesFor, Holds}
 use Rattle.bits.proofs.Fields.{field-zero}
-use Rattle.source.specs.Source.{both, fileOf}
+use Rattle.source.specs.Source.{fileOf}
+use Rattle.source.proofs.Laws.{both-true}
 use Rattle.plan_file.specs.PlanFile.{PlanFile, ridesFields}
 use Rattle.plan_file.proofs.Files.{plan-bits, plan-size, plan-head, plan-read, rides-none, rides-more}
 use Rattle.plan_reader.specs.declared.Plan.{Plan}
@@ -27,10 +28,6 @@ rides-hold s zero = rides-none s 89
 rides-hold s (suc n) =
     let long = rides-length s n in
     rides-more s 89 (rideAt s n) (ridesAt s n) (rides-hold s n) (rw long) (rw long)
-
-both-true : (a b : Bool) → both a b ≡ true → (a ≡ true) × (b ≡ true)
-both-true true b e = (refl, e)
-both-true false b e = (e, cc)
 
 module _ (s : List ℕ) where
   -- the bytes are the file that they say

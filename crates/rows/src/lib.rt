@@ -6,6 +6,9 @@ ghost use lib.ListN.{length, getD, replicate};
 ghost use Rattle.rows.specs.Row.{Passed, Search, Lower, Settle};
 ghost use Rattle.rows.specs.Whole.{SettleRow, LowerRow};
 
+// What a cell holds where there is no plan.
+pub const NO_PLAN: u32 = 4294967295;
+
 // A cell in 64 bits.
 fn wide(x: u32) -> u64
     ensures { λ r. ⌜ (r ≡ x) × (r < 4294967296) ⌝ }
@@ -130,10 +133,10 @@ pub fn first_lower(
 fn capped(add: u64) -> u32
     ensures { λ r. ⌜ r ≡ min add 4294967295 ⌝ }
 {
-    if add < 4294967295 {
+    if add < NO_PLAN as u64 {
         add as u32
     } else {
-        4294967295
+        NO_PLAN
     }
 }
 
@@ -143,7 +146,7 @@ fn ridden(cell: u32, value: u32, add: u64) -> u32
     ensures { λ r. ⌜ r ≡ min cell (value + add) ⌝ }
 {
     let small = capped(add);
-    least(cell, least(value, 4294967295 - small) + small)
+    least(cell, least(value, NO_PLAN - small) + small)
 }
 
 // Rides from the columns from..until: a cell reached becomes what the ride gives, where that is smaller.

@@ -19,7 +19,7 @@ use Rattle.plan.proofs.Sheets.{costOf, cell-cost}
 use Rattle.rows.specs.Whole.{rowOf}
 use Rattle.rows.proofs.Wholes.{row-length}
 use Rattle.walk.proofs.Nets.{row-room}
-use Rattle.sheet_call.specs.Rows.{noCost, stepAt, stepsFrom, stepsOf, placesFrom, sheetIn}
+use Rattle.sheet_call.specs.Rows.{noCost, stepTo, stepsFrom, stepsOf, placesFrom, sheetIn}
 use Rattle.sheet_call.proofs.Stepping.{steps-none, steps-lower, steps-same}
 
 -- ---- minutes rise and costs fall
@@ -32,7 +32,7 @@ after q s t (c ∷ cs) l m h = at (decLt (c / 64) (s .price)) (λ x before in-ti
   where
     at : Dec (c / 64 < s .price) → ((x : Step) → x .minute < t + 1 → x .minute ≤ q .latest → StepsAfter q x (stepsFrom (t + 1) (x .price) cs))
         → StepsAfter q s (stepsFrom t (s .price) (c ∷ cs))
-    at (yes k) ih = rw (steps-lower t (s .price) c cs k) (l, k, ih (stepAt t (c / 64)) (omega arith) (omega arith))
+    at (yes k) ih = rw (steps-lower t (s .price) c cs k) (l, k, ih (stepTo t (c / 64)) (omega arith) (omega arith))
     at (no n) ih = rw (steps-same t (s .price) c cs (omega arith)) (ih s (omega arith) m)
 
 pub steps-as-described : (q : Query) (t : Minute) (was : Cents) (cs : List ℕ) → q .earliest ≤ t → t + length cs ≤ q .latest + 1
@@ -41,7 +41,7 @@ steps-as-described q t was [] e h = rw (steps-none t was) tt
 steps-as-described q t was (c ∷ cs) e h = at (decLt (c / 64) was) (steps-as-described q (t + 1) was cs (omega arith) (omega arith))
   where
     at : Dec (c / 64 < was) → Steps q (stepsFrom (t + 1) was cs) → Steps q (stepsFrom t was (c ∷ cs))
-    at (yes k) ih = rw (steps-lower t was c cs k) (e, after q (stepAt t (c / 64)) (t + 1) cs (omega arith) (omega arith) (omega arith))
+    at (yes k) ih = rw (steps-lower t was c cs k) (e, after q (stepTo t (c / 64)) (t + 1) cs (omega arith) (omega arith) (omega arith))
     at (no n) ih = rw (steps-same t was c cs (omega arith)) ih
 
 -- ---- their values

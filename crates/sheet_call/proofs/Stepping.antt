@@ -16,7 +16,7 @@ use Rattle.plan.specs.Network.{Minute, Cents}
 use Rattle.plan.specs.Sheet.{Step}
 use Rattle.plan_file.specs.Puts.{Puts}
 use Rattle.plan_file.proofs.Puts.{puts-then}
-use Rattle.sheet_call.specs.Rows.{stepAt, stepsFrom}
+use Rattle.sheet_call.specs.Rows.{stepTo, stepsFrom}
 use Rattle.sheet_file.specs.Fields.{stepFields, stepsFields, placeFields, placesFields}
 
 -- ---- the steps, cell by cell
@@ -26,7 +26,7 @@ unfolding stepsFrom
 steps-none t was = refl
 
 pub steps-lower : (t : Minute) (was : Cents) (c : ℕ) (cs : List ℕ) → c / 64 < was
-    → stepsFrom t was (c ∷ cs) ≡ stepAt t (c / 64) ∷ stepsFrom (t + 1) (c / 64) cs
+    → stepsFrom t was (c ∷ cs) ≡ stepTo t (c / 64) ∷ stepsFrom (t + 1) (c / 64) cs
 unfolding stepsFrom
 steps-lower t was c cs h = rw (lt-ltb (c / 64) was h)
 
@@ -41,8 +41,8 @@ steps-long t u was [] = refl
 steps-long t u was (c ∷ cs) = at (ltb (c / 64) was) (λ w. steps-long (t + 1) (u + 1) w cs)
   where
     at : (b : Bool) → ((w : Cents) → length (stepsFrom (t + 1) w cs) ≡ length (stepsFrom (u + 1) w cs))
-        → length (pick b (stepAt t (c / 64) ∷ stepsFrom (t + 1) (c / 64) cs) (stepsFrom (t + 1) was cs))
-        ≡ length (pick b (stepAt u (c / 64) ∷ stepsFrom (u + 1) (c / 64) cs) (stepsFrom (u + 1) was cs))
+        → length (pick b (stepTo t (c / 64) ∷ stepsFrom (t + 1) (c / 64) cs) (stepsFrom (t + 1) was cs))
+        ≡ length (pick b (stepTo u (c / 64) ∷ stepsFrom (u + 1) (c / 64) cs) (stepsFrom (u + 1) was cs))
     at true ih = ap suc (ih (c / 64))
     at false ih = ih was
 
@@ -63,10 +63,10 @@ module _ (row : List ℕ) (t : Minute) (was : Cents) (k : ℕ) where
     later = omega arith
 
     pub from-lower : getD row k 0 / 64 < was
-        → stepsFrom (t + k) was (drop k row) ≡ stepAt (t + k) (getD row k 0 / 64) ∷ stepsFrom (t + (k + 1)) (getD row k 0 / 64) (drop (k + 1) row)
+        → stepsFrom (t + k) was (drop k row) ≡ stepTo (t + k) (getD row k 0 / 64) ∷ stepsFrom (t + (k + 1)) (getD row k 0 / 64) (drop (k + 1) row)
     from-lower l =
         ap (stepsFrom (t + k) was) here ∙ steps-lower (t + k) was (getD row k 0) (drop (k + 1) row) l
-        ∙ ap (λ (n : ℕ). stepAt (t + k) (getD row k 0 / 64) ∷ stepsFrom n (getD row k 0 / 64) (drop (k + 1) row)) later
+        ∙ ap (λ (n : ℕ). stepTo (t + k) (getD row k 0 / 64) ∷ stepsFrom n (getD row k 0 / 64) (drop (k + 1) row)) later
 
     pub from-same : was ≤ getD row k 0 / 64 → stepsFrom (t + k) was (drop k row) ≡ stepsFrom (t + (k + 1)) was (drop (k + 1) row)
     from-same l =

@@ -14,7 +14,7 @@ use Rattle.plan_file.proofs.Puts.{puts-one, puts-front}
 use Rattle.rows.specs.Whole.{rowOf}
 use Rattle.rows.proofs.Wholes.{row-length}
 use Rattle.walk.proofs.Nets.{row-room}
-use Rattle.sheet_call.specs.Rows.{noCost, stepAt, stepsFrom, stepsOf, placesFrom, sheetIn}
+use Rattle.sheet_call.specs.Rows.{noCost, stepTo, stepsFrom, stepsOf, placesFrom, sheetIn}
 use Rattle.sheet_file.specs.Fields.{stepFields, stepsFields, placeFields, placesFields}
 use Rattle.sheet_call.specs.Parts.{Counted, RoomAt, Table, Weighed}
 use Rattle.sheet_call.proofs.Stepping.{from-start, from-end, from-lower, from-same, fields-none, fields-more, steps-bits, place-bits, places-none, places-more, places-bits, Left, left-all, left-done, left-more}
@@ -106,11 +106,11 @@ module _ (row : List ℕ) (t : Minute) (first : List ℕ) (at : ℕ) where
       pub putting-room : RoomAt first at (stepsFields (stepsOf t row)) → getD row k 0 / 64 < was → at + 44 * count + 44 ≤ 8 * length out
       putting-room r l = omega (arith, r .room, steps-bits (stepsOf t row), counting-left row was count k (c .counting) h l t, c .long)
 
-      pub putting-lower : getD row k 0 / 64 < was → (next : List ℕ) → Puts out next (at + 44 * count) (stepFields (stepAt (t + k) (getD row k 0 / 64)))
+      pub putting-lower : getD row k 0 / 64 < was → (next : List ℕ) → Puts out next (at + 44 * count) (stepFields (stepTo (t + k) (getD row k 0 / 64)))
           → Putting row t first at next (getD row k 0 / 64) (count + 1) (k + 1)
       putting-lower l next put =
           let on : at + 44 * count + 44 ≡ at + 44 * (count + 1) = omega arith in
-          let s = stepAt (t + k) (getD row k 0 / 64) in
+          let s = stepTo (t + k) (getD row k 0 / 64) in
           let rest = stepsFrom (t + (k + 1)) (getD row k 0 / 64) (drop (k + 1) row) in
           let split = ap stepsFields (from-lower row t was k h l) ∙ fields-more s rest in
           record {

@@ -12,13 +12,13 @@ abbrev pub noCost : Cents
 noCost = 67108863
 
 -- a step at this minute to this cost
-abbrev pub stepAt : Minute → Cents → Step
-stepAt t x = record { minute = t; price = x }
+abbrev pub stepTo : Minute → Cents → Step
+stepTo t x = record { minute = t; price = x }
 
 -- the steps of the cells from minute t on: one wherever the cost falls below what it was before
 unfoldable pub stepsFrom : Minute → Cents → List ℕ → List Step
 stepsFrom t was [] = []
-stepsFrom t was (c ∷ cs) = pick (ltb (c / 64) was) (stepAt t (c / 64) ∷ stepsFrom (t + 1) (c / 64) cs) (stepsFrom (t + 1) was cs)
+stepsFrom t was (c ∷ cs) = pick (ltb (c / 64) was) (stepTo t (c / 64) ∷ stepsFrom (t + 1) (c / 64) cs) (stepsFrom (t + 1) was cs)
 
 -- the steps of a row that begins at minute t
 abbrev pub stepsOf : Minute → List ℕ → List Step

@@ -9,7 +9,7 @@ ghost use Rattle.plan_file.specs.Puts.{Puts};
 ghost use Rattle.walk.specs.Walk.{netOf};
 ghost use Rattle.tabled.specs.Comes.{asking};
 ghost use Rattle.tabled.specs.Tabled.{Tabled};
-ghost use Rattle.sheet_call.specs.Rows.{stepAt, stepsOf, sheetIn};
+ghost use Rattle.sheet_call.specs.Rows.{stepTo, stepsOf, sheetIn};
 ghost use Rattle.sheet_file.specs.Fields.{stepFields, stepsFields, placeFields, placesFields, sheetBytes, FileOf};
 ghost use Rattle.sheet_call.specs.Parts.{Counted, RoomAt, Table, Weighed};
 ghost use Rattle.sheet_call.specs.Sheet.{Answered, Sheets};
@@ -20,9 +20,6 @@ use leg::Minute;
 use network::Size;
 use plan_file::Query;
 use tabled::Tabling;
-
-// What a cell holds where there is no plan.
-const NO_PLAN: u32 = 4294967295;
 
 // What such a cell shows for a cost: above every cost.
 const NO_COST: u32 = 67108863;
@@ -65,7 +62,7 @@ fn weigh(cells: &[u32], w: usize, places: u32) -> u32
 // One step.
 fn put_step(out: &mut [u8], at: usize, minute: Minute, price: Cents)
     requires { ⌜ (minute .0 < 4096) × (at + 44 ≤ 8 * length (now out)) × (at ≤ 20000000) ⌝ }
-    ensures { λ r. ⌜ Puts (now (out .entry)) (now (out .exit)) at (stepFields (stepAt (minute .0) (price .0))) ⌝ }
+    ensures { λ r. ⌜ Puts (now (out .entry)) (now (out .exit)) at (stepFields (stepTo (minute .0) (price .0))) ⌝ }
 {
     bits::put(out, at, 12, minute.0);
     bits::put(out, at + 12, 32, price.0);
@@ -147,7 +144,7 @@ fn answer(size: Size, query: Query, cells: &[u32], out: &mut [u8]) -> PlanAnswer
         return PlanAnswer::Refused(Refusal::Room);
     }
     write_sheet(cells, w, size.places, earliest, &mut out[..bytes as usize]);
-    if walk::cell(cells, query, query.end, latest) == NO_PLAN {
+    if walk::cell(cells, query, query.end, latest) == rows::NO_PLAN {
         return PlanAnswer::NoPlan(bytes);
     }
     PlanAnswer::Done(bytes)

@@ -13,7 +13,8 @@ use Rattle.answer.specs.declared.Refusal.the-variants.{Short, Tail, SheetFile}
 use Rattle.bits.specs.Field.{field}
 use Rattle.source.specs.Source.{Source, both, fileOf}
 use Rattle.network.specs.Reading.{Found, refused, found, next, pick}
-use Rattle.network.proofs.Inversion.{check-step, field-step, inner-step, both-true}
+use Rattle.source.proofs.Laws.{both-true}
+use Rattle.network.proofs.Inversion.{check-step, field-step, inner-step}
 use Rattle.plan.specs.Network.{Minute, Cents, Query}
 use Rattle.plan.specs.Sheet.{Step, StepsAfter, Steps}
 use Rattle.sheet_file.specs.declared.SheetFound.{SheetFound}

@@ -1,7 +1,7 @@
--- Fields that reach past the end of a file, and how many of four are there.
+-- Fields that reach past the end of a file, how many of four are there, and both halves of a test.
 use Prim.Native.Nat.{ℕ, suc, _+_, _-_, _*_, _%_, _^_, _≤_}
-use mathlib.Core.Path.{_≡_, _∙_}
-use mathlib.Core.Bool.{true, false}
+use mathlib.Core.Path.{_≡_, refl, _∙_}
+use mathlib.Core.Bool.{Bool, true, false}
 use mathlib.Core.List.{List}
 use native.Mathlib.Nat.{add-zero, mod-eq-of-lt, lt-of-lt-of-le}
 use native.Mathlib.Omega.{arith}
@@ -10,10 +10,15 @@ use lib.Dec.{leb, ltb}
 use lib.Pow.{pow-mono}
 use lib.ListN.{length}
 use Rattle.bits.specs.Field.{field}
-use Rattle.source.specs.Source.{Whole}
+use Rattle.source.specs.Source.{Whole, both}
 use Rattle.reader.proofs.Tests.{leb-same}
 use Rattle.bits.proofs.Bytes.{bit-past}
 use Rattle.bits.proofs.Fields.{field-split, field-zero, field-below}
+
+-- both halves of a test
+pub both-true : (a b : Bool) → both a b ≡ true → (a ≡ true) × (b ≡ true)
+both-true true b e = (refl, e)
+both-true false b e = (e, cc)
 
 pub field-past : (s : List ℕ) (at w : ℕ) → 8 * length s ≤ at → field s at w ≡ 0
 field-past s at w h = field-zero s at w (λ p l m. bit-past s p (omega arith))

@@ -17,9 +17,6 @@ use leg::Leg;
 use leg::Minute;
 use network::Size;
 
-// What a cell holds where there is no plan.
-const NO_PLAN: u32 = 4294967295;
-
 // From where, and the first and last minute.
 pub struct Ask {
     pub start: u32,
@@ -320,7 +317,7 @@ fn outset(start: usize, w: usize, cells: &mut [u32], low: &mut [usize])
 {
     let begin = start * w;
     let end = begin + w;
-    rows::blank(cells, NO_PLAN);
+    rows::blank(cells, rows::NO_PLAN);
     rows::blank(&mut cells[begin..end], 0);
     quiet(low, w);
     low[start] = 0;
