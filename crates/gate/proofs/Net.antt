@@ -17,7 +17,7 @@ use Rattle.plan.specs.Legs.{noLeg}
 use Rattle.chart.specs.Chart.{Charted}
 use Rattle.chart.proofs.Charting.{charted-leg}
 use Rattle.rule_b.specs.Rule.{InOrder}
-use Rattle.rule_b.proofs.InFile.{Same, leg-there}
+use Rattle.network.proofs.InFile.{Same, leg-there}
 use Rattle.gate.specs.Parts.{netOf, netAt, legOf, Known-file}
 
 pub record NetRead (s : List ℕ) (size : Size) : Type 0 where

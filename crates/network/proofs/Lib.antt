@@ -11,3 +11,4 @@ pub mod Files
 pub mod Carries
 pub mod Traces
 pub mod RoundTrip
+pub mod InFile

@@ -2,3 +2,4 @@ pub mod Reading
 pub mod Network
 pub mod Fields
 pub mod Answers
+pub mod InFile

@@ -1,3 +1,4 @@
+pub mod Parts
 pub mod Stores
 pub mod Listing
 pub mod Results

@@ -1,6 +1,6 @@
 -- Listing the legs of a sound file: what the loop keeps, leg by leg.
 use Prim.Native.Nat.{ℕ, _+_, _*_, _≤_, _<_}
-use mathlib.Core.Path.{_≡_, refl, sym, _∙_, ap}
+use mathlib.Core.Path.{_≡_, refl, sym, _∙_, ap, subst}
 use mathlib.Core.List.{List, [], _∷_, _++_}
 use native.Mathlib.Omega.{arith}
 use borrow.Author.Tests.{le-leb}
@@ -55,6 +55,12 @@ module _ (net : List ℕ) (places n : ℕ) (start : List ℕ) where
             ∙ rw (p .stored)
             (rw (legs-fields-more edition1 b l, values-append (legsFields edition1 b) (legFields edition1 l), sets-append start 3 vs, size));
       }
+
+-- the same bit and the same index under other names
+pub listing-at : (net : List ℕ) (places n k place place′ at at′ : ℕ) (start list : List ℕ) → place ≡ place′ → at ≡ at′
+    → Listing net places n k place at start list → Listing net places n k place′ at′ start list
+listing-at net places n k place place′ at at′ start list e f h =
+    subst (λ (x : ℕ). Listing net places n k place′ x start list) f (subst (λ (x : ℕ). Listing net places n k x at start list) e h)
 
 -- the head, then all legs: what the call promises of the list
 pub listed-all : (s list : List ℕ) (size : Size) (f : SoundFile s size) → 3 + 4 * size .legs + 2 * size .bands ≤ length list

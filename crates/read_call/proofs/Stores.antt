@@ -1,6 +1,6 @@
 -- Runs of stores: one run after another is one run.
 use Prim.Native.Nat.{ℕ, suc, _+_, _*_, _≤_}
-use mathlib.Core.Path.{_≡_, _∙_}
+use mathlib.Core.Path.{_≡_, _∙_, ap}
 use mathlib.Core.List.{List, [], _∷_, _++_}
 use native.Mathlib.Nat.{add-zero, add-suc, suc-add, zero-add}
 use native.Mathlib.Numerals.{add-four}
@@ -38,3 +38,13 @@ pub front : (l vs : List ℕ) → length vs ≤ length l → sets l 0 vs ≡ vs 
 front l vs h =
     let room : 0 + length vs ≤ length l = omega arith in
     sets-eq vs l 0 room ∙ rw zero-add
+
+-- four numbers under other names, and two
+pub four-same : (l l′ : List ℕ) (at : ℕ) {a b c d : ℕ} (a′ b′ c′ d′ : ℕ) → l′ ≡ sets l at (a ∷ b ∷ c ∷ d ∷ []) → a ≡ a′ → b ≡ b′ → c ≡ c′ → d ≡ d′
+    → l′ ≡ sets l at (a′ ∷ b′ ∷ c′ ∷ d′ ∷ [])
+four-same l l′ at {a} {b} {c} {d} a′ b′ c′ d′ is e f g h =
+    is ∙ ap (λ x. sets l at (x ∷ b ∷ c ∷ d ∷ [])) e ∙ ap (λ x. sets l at (a′ ∷ x ∷ c ∷ d ∷ [])) f
+    ∙ ap (λ x. sets l at (a′ ∷ b′ ∷ x ∷ d ∷ [])) g ∙ ap (λ x. sets l at (a′ ∷ b′ ∷ c′ ∷ x ∷ [])) h
+
+pub two-same : (l l′ : List ℕ) (at : ℕ) {a b : ℕ} (a′ b′ : ℕ) → l′ ≡ sets l at (a ∷ b ∷ []) → a ≡ a′ → b ≡ b′ → l′ ≡ sets l at (a′ ∷ b′ ∷ [])
+two-same l l′ at {a} {b} a′ b′ is e f = is ∙ ap (λ x. sets l at (x ∷ b ∷ [])) e ∙ ap (λ x. sets l at (a′ ∷ x ∷ [])) f

@@ -7,11 +7,11 @@ ghost use lib.Seq.{sets};
 ghost use Rattle.network.specs.declared.NetworkFound.{NetworkFound};
 ghost use Rattle.network.specs.Network.{edition1, ofFile};
 ghost use Rattle.network.specs.Fields.{legFields, values};
+ghost use Rattle.network.specs.InFile.{legAt, LegThere};
 ghost use Rattle.network.specs.Answers.{networkFound};
 ghost use Rattle.read_call.specs.Read.{Reads, listed};
 use answer::Answer;
 use answer::Refusal;
-use leg::Leg;
 use network::NetworkFound;
 use network::Size;
 use source::Origin;
@@ -35,21 +35,29 @@ fn four(list: &mut [u32], at: usize, a: u32, b: u32, c: u32, d: u32)
     list[at + 3] = d;
 }
 
-// The numbers of one leg, from index `at` on.
-fn list_leg(leg: Leg, list: &mut [u32], at: usize)
-    requires { ⌜ (leg .count ≤ 8) × (at + (4 + 2 * leg .count) ≤ length (now list)) ⌝ }
-    ensures { λ r. ⌜ now (list .exit) ≡ sets (now (list .entry)) at (values (legFields edition1 leg)) ⌝ }
+// The numbers of the leg that stands at a bit, from index `at` on; the number of its bands. A head and a band are read with one load each.
+fn list_leg(net: &[u8], place: usize, list: &mut [u32], at: usize) -> usize
+    requires { ⌜ LegThere (now net) place (legAt (now net) place .count) × (at + (4 + 2 * legAt (now net) place .count) ≤ length (now list)) ⌝ }
+    ensures { λ r. ⌜ (r ≡ legAt (now (net .entry)) place .count) × (now (list .exit) ≡ sets (now (list .entry)) at (values (legFields edition1 (legAt (now (net .entry)) place)))) ⌝ }
 {
-    let bands = leg.bands;
-    let time = leg.time;
-    let count = leg.count;
-    four(list, at, leg.from, leg.to, time.0, count as u32);
+    let head = reader::field(net, place, 28);
+    let bands = head % 16;
+    four(
+        list,
+        at,
+        head / 0x40_0000,
+        head / 0x1_0000 % 64,
+        head / 16 % 4096,
+        bands,
+    );
+    let count = bands as usize;
     let mut k = 0;
     while k < count {
-        let band = bands[k];
-        two(list, at + 4 + 2 * k, band.start.0, band.toll.0);
+        let band = reader::field(net, place + 28 + 28 * k, 28);
+        two(list, at + 4 + 2 * k, band / 0x1_0000, band % 0x1_0000);
         k += 1;
     }
+    count
 }
 
 // The numbers of a whole network, whose file is known to be sound.
@@ -57,7 +65,6 @@ fn list_network(net: &[u8], list: &mut [u32], size: Size)
     requires { ⌜ (networkFound (ofFile (now net)) ≡ NetworkFound.Sound size) × (3 + 4 * size .legs + 2 * size .bands ≤ length (now list)) ⌝ }
     ensures { λ r. ⌜ now (list .exit) ≡ listed (ofFile (now (net .entry))) (now (list .entry)) ⌝ }
 {
-    let no_list = [0u32; 1];
     let places = size.places;
     let legs = size.legs;
     list[0] = 1;
@@ -66,11 +73,9 @@ fn list_network(net: &[u8], list: &mut [u32], size: Size)
     let mut place = 25;
     let mut k = 0;
     while k < legs {
-        let found = network::leg_from(Origin::File, net, &no_list, place, places);
-        let leg = found.leg;
-        list_leg(leg, list, at);
-        at += 4 + 2 * leg.count;
-        place = found.after;
+        let bands = list_leg(net, place, list, at);
+        at += 4 + 2 * bands;
+        place += 28 + 28 * bands;
         k += 1;
     }
 }

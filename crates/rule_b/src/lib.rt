@@ -6,7 +6,7 @@ ghost use Rattle.plan.specs.Sheet.{value};
 ghost use Rattle.sheet_file.specs.Window.{window};
 ghost use Rattle.sheet_file.specs.InPlace.{stepsAt, placeAt, countAt};
 ghost use Rattle.rule_b.specs.Rule.{Is, RuleB, InOrder};
-ghost use Rattle.rule_b.specs.InFile.{legAt, LegThere};
+ghost use Rattle.network.specs.InFile.{legAt, LegThere};
 ghost use Rattle.rule_b.specs.Cursor.{firstOf, shown, startOr, Held, Begun, Moved, Banded, Covers, Or, PlaceAsked, LegAsked};
 use card::Shown;
 use leg::Cents;

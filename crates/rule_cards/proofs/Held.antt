@@ -20,10 +20,10 @@ use Rattle.plan.specs.Network.{Minute, Cents, Query}
 use Rattle.plan.specs.Sheet.{Step, orElse, value, Steps}
 use Rattle.sheet_file.specs.InPlace.{stepAt, stepsAt, placeAt, countAt}
 use Rattle.rule_b.specs.Rule.{InOrder}
-use Rattle.rule_b.specs.InFile.{bandsAt, legAt}
+use Rattle.network.specs.InFile.{bandsAt, legAt}
 use Rattle.rule_b.specs.Cursor.{firstOf, shown, Sorted}
 use Rattle.rule_b.proofs.Walks.{first-none, first-some, none-before, steps-sorted}
-use Rattle.rule_b.proofs.InFile.{band-there}
+use Rattle.network.proofs.InFile.{band-there}
 use Rattle.card.specs.declared.Shown.{Shown}
 use Rattle.card.specs.Card.{slot, never, Rising, Carded, Begun, Shows}
 use Rattle.rule_cards.specs.Cards.{Ready, HoldsSteps, HoldsTolls, StepAt}

@@ -12,7 +12,7 @@ use Rattle.plan.specs.Network.{Minute, Query}
 use Rattle.plan.specs.Sheet.{Step, Steps}
 use Rattle.sheet_file.specs.InPlace.{placeAt, countAt}
 use Rattle.rule_b.specs.Rule.{Is, RuleB, InOrder}
-use Rattle.rule_b.specs.InFile.{legAt}
+use Rattle.network.specs.InFile.{legAt}
 use Rattle.card.specs.Card.{slot, never, Written, Kept, Carded}
 use Rattle.card.proofs.Filling.{carded}
 use Rattle.rule_cards.specs.Cards.{Ready, Between, RuleIf, RuleAtAll, Joins}

@@ -2,7 +2,7 @@
 ghost use Prim.Native.Nat.{_+_, _*_, _≤_, _<_};
 ghost use Rattle.plan.specs.Sheet.{AtMost};
 ghost use Rattle.rule_b.specs.Rule.{Is, RuleB, InOrder};
-ghost use Rattle.rule_b.specs.InFile.{legAt, LegThere};
+ghost use Rattle.network.specs.InFile.{legAt, LegThere};
 ghost use Rattle.rule_b.specs.Cursor.{shown, LegAsked};
 ghost use Rattle.card.specs.Card.{Blank, Kept};
 ghost use Rattle.sheet_file.specs.InPlace.{placeAt, countAt};

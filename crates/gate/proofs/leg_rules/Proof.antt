@@ -7,7 +7,8 @@ use borrow.Author.Needs.{needs}
 use Rattle.network.proofs.Sound.{SoundLeg}
 use Rattle.sheet_file.specs.InPlace.{placeAt}
 use Rattle.rule_b.specs.Rule.{Is, RuleB}
-use Rattle.rule_b.proofs.InFile.{Same, order-there, rule-there}
+use Rattle.network.proofs.InFile.{Same}
+use Rattle.rule_b.proofs.InFile.{order-there, rule-there}
 use Rattle.gate.specs.Parts.{netAt, legOf}
 use Rattle.gate.proofs.Net.{read, charted, leg-stands, leg-sound, in-order}
 use Rattle.gate.proofs.leg_rules.Statement.{statement}

@@ -1,8 +1,8 @@
 use Rattle.rule_b.specs.Rule.{InOrder}
 use Rattle.rule_b.specs.Cursor.{Banded}
-use Rattle.rule_b.specs.InFile.{legAt, LegThere}
+use Rattle.network.specs.InFile.{legAt, LegThere}
 use Rattle.rule_b.proofs.Bands.{some-band, banded-more}
-use Rattle.rule_b.proofs.InFile.{band-there}
+use Rattle.network.proofs.InFile.{band-there}
 use borrow.Author.Needs.{needs}
 use Prim.Native.Nat.{_+_, _-_, _<_}
 use native.Mathlib.Omega.{arith}

@@ -2,7 +2,7 @@ use mathlib.Core.Logic.{inl, inr}
 use borrow.Author.Tests.{not-true, not-false}
 use Rattle.sheet_file.specs.Window.{window}
 use Rattle.rule_b.specs.Cursor.{shown, Covers, Or}
-use Rattle.rule_b.specs.InFile.{legAt, LegThere}
+use Rattle.network.specs.InFile.{legAt, LegThere}
 use Rattle.rule_b.proofs.Turn.{moved-at, Walking, is-true, is-false, walking-start, turn-broken, turn-on, walking-done}
 use borrow.Author.Needs.{needs}
 use Prim.Native.Nat.{ℕ, _+_, _-_, _<_}

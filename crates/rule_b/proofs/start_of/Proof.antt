@@ -3,9 +3,9 @@ use native.Mathlib.Omega.{arith}
 use mathlib.Core.Path.{_≡_, sym, _∙_, ap}
 use borrow.Author.Needs.{needs}
 use Rattle.leg.specs.declared.Band.{Band}
-use Rattle.rule_b.specs.InFile.{legAt}
+use Rattle.network.specs.InFile.{legAt}
 use Rattle.rule_b.proofs.Bands.{start-none, start-some}
-use Rattle.rule_b.proofs.InFile.{band-there}
+use Rattle.network.proofs.InFile.{band-there}
 use Rattle.rule_b.proofs.start_of.Statement.{statement}
 use Rattle.rule_b.proofs.start_of.Tie as tie
 

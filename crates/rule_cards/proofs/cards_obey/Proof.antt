@@ -2,7 +2,7 @@
 use borrow.Author.Needs.{needs}
 use Prim.Native.Nat.{ℕ, _+_, _*_, _≤_, _<_}
 use native.Mathlib.Omega.{arith}
-use Rattle.rule_b.specs.InFile.{legAt}
+use Rattle.network.specs.InFile.{legAt}
 use Rattle.rule_cards.proofs.Legs.{new-card, bands-ready, between, leg-tested}
 use Rattle.rule_cards.proofs.cards_obey.Statement.{statement}
 use Rattle.rule_cards.proofs.cards_obey.Tie as tie
