@@ -11,7 +11,7 @@ abbrev pub netOf : Found Network → Network
 netOf (refused why) = record { places = 0; legs = [] }
 netOf (found net end) = net
 
--- the network that a file's bytes stand for
+-- the network that a file's bytes stand for; unfolded only where asked, so that nothing computes the reader
 unfoldable pub netIn : List ℕ → Network
 netIn s = netOf (ofFile s)
 
