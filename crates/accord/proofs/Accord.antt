@@ -34,8 +34,9 @@ use Rattle.sheet_file.specs.SheetFile.{sheetOf}
 use Rattle.sheet_file.specs.Fields.{sheetFields, sheetBytes, FileOf as SheetFileOf}
 use Rattle.sheet_file.proofs.ReadsBack.{sheet-reads-back}
 use Rattle.sheet_call.specs.Sheet.{Right as SheetRight, some, none as no-plan, Output as SheetOutput, Answered as SheetAnswered}
-use Rattle.gate.specs.Gate.{theory, Known, GateSays}
+use Rattle.gate.specs.Gate.{Known, GateSays}
 use Rattle.gate.proofs.Theorems.{askable, least-accepted, none-accepted}
+use Rattle.chart.specs.Net.{theory}
 use Rattle.accord.specs.Accord.{Front, Wrote, toward, OursAccepted}
 use Rattle.accord.proofs.Ends.{ours-toward}
 

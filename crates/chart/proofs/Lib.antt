@@ -1,1 +1,2 @@
 pub mod Charting
+pub mod Net

@@ -22,43 +22,44 @@ use Rattle.sheet_file.specs.SheetFile.{sheetOf}
 use Rattle.sheet_file.specs.InPlace.{placeAt, Indexed, Judged}
 use Rattle.sheet_file.specs.Window.{window}
 use Rattle.sheet_file.proofs.Found.{sheet-window, sheet-steps, steps-window}
-use Rattle.gate.specs.Gate.{theory, Known, Holds, stated, OfSheet, OfPlan, OfFiles, OfNetwork}
-use Rattle.gate.specs.Parts.{netAt, sheetAt, Placed}
+use Rattle.chart.specs.Net.{netIn, theory}
+use Rattle.gate.specs.Gate.{Known, Holds, stated, OfSheet, OfPlan, OfFiles, OfNetwork}
+use Rattle.gate.specs.Parts.{sheetAt, Placed}
 
 -- ---- the sheet file
 
 -- what its judging tells, for the query's own window
-pub judged-at : (net s : List ℕ) (places : ℕ) (q : Query) (r : SheetFound) → places ≡ netAt net .places
+pub judged-at : (net s : List ℕ) (places : ℕ) (q : Query) (r : SheetFound) → places ≡ netIn net .places
     → Judged s places (sheetOf places (window (q .earliest) (q .latest)) s) r
-    → Judged s (netAt net .places) (sheetAt net s q) r
+    → Judged s (netIn net .places) (sheetAt net s q) r
 judged-at net s places q r e j =
-    subst (λ x. Judged s (netAt net .places) x r) (sym (sheet-window (netAt net .places) q s))
+    subst (λ x. Judged s (netIn net .places) x r) (sym (sheet-window (netIn net .places) q s))
     (subst (λ (n : ℕ). Judged s n (sheetOf n (window (q .earliest) (q .latest)) s) r) e j)
 
 pub record FoundSheet (net s : List ℕ) (q : Query) (index : List ℕ) : Type 0 where
   pub sheet : List (List Step)
   pub end : ℕ
   pub is : sheetAt net s q ≡ found sheet end
-  pub indexed : Indexed s (netAt net .places) index sheet
-  pub steps : (p : ℕ) → p < netAt net .places → Steps q (getD sheet p [])
+  pub indexed : Indexed s (netIn net .places) index sheet
+  pub steps : (p : ℕ) → p < netIn net .places → Steps q (getD sheet p [])
 
-pub found-sheet : (net s : List ℕ) (q : Query) (r : SheetFound) → Judged s (netAt net .places) (sheetAt net s q) r → r .sound ≡ true
+pub found-sheet : (net s : List ℕ) (q : Query) (r : SheetFound) → Judged s (netIn net .places) (sheetAt net s q) r → r .sound ≡ true
     → FoundSheet net s q (r .index)
 found-sheet net s q r j e = at (sheetAt net s q) refl j
   where
-    at : (x : Found (List (List Step))) → sheetAt net s q ≡ x → Judged s (netAt net .places) x r → FoundSheet net s q (r .index)
+    at : (x : Found (List (List Step))) → sheetAt net s q ≡ x → Judged s (netIn net .places) x r → FoundSheet net s q (r .index)
     at (refused why) is j = let z : _≡_ {A = ℕ} 0 1 = cc in absurd (omega arith)
     at (found sheet end) is j =
-        record { sheet = sheet; end = end; is = is; indexed = j .1; steps = sheet-steps (netAt net .places) q s sheet end is }
+        record { sheet = sheet; end = end; is = is; indexed = j .1; steps = sheet-steps (netIn net .places) q s sheet end is }
 
 -- and so every place's steps are as the walks want them
-pub placed : (net s : List ℕ) (places : ℕ) (q : Query) (index : List ℕ) → places ≡ netAt net .places → places ≤ 64 → q .latest ≤ 2879
+pub placed : (net s : List ℕ) (places : ℕ) (q : Query) (index : List ℕ) → places ≡ netIn net .places → places ≤ 64 → q .latest ≤ 2879
     → FoundSheet net s q index
     → Placed s places (window (q .earliest) (q .latest)) index
 placed net s places q index e few late f = record {
   few = few;
   each = λ p low.
-      let below : p < netAt net .places = omega arith in
+      let below : p < netIn net .places = omega arith in
       let there = subst (λ (xs : List Step). Steps q xs) (f .indexed .steps p below) (f .steps p below) in
       record { inside = f .indexed .inside p below; steps = steps-window q (placeAt s (getD index p 0)) there };
   end = late;
@@ -114,6 +115,6 @@ pub network-none : (x : Found NetworkFile) (why : Refusal) (plan sheet : List �
 network-none (refused w) why plan sheet e = cc
 network-none (found net end) why plan sheet e = let z : _≡_ {A = ℕ} 0 1 = cc in absurd (omega arith)
 
-pub network-on : (s : List ℕ) (end : ℕ) (r : Answer) (plan sheet : List ℕ) → ofFile s ≡ found (netAt s) end → OfFiles r (netAt s) plan sheet
+pub network-on : (s : List ℕ) (end : ℕ) (r : Answer) (plan sheet : List ℕ) → ofFile s ≡ found (netIn s) end → OfFiles r (netIn s) plan sheet
     → OfNetwork r (ofFile s) plan sheet
 network-on s end r plan sheet is o = subst (λ x. OfNetwork r x plan sheet) (sym is) o

@@ -22,9 +22,10 @@ use Rattle.plan.proofs.Legs.{toll-most}
 use Rattle.plan_reader.specs.InPlace.{rideAt, ridesAt, fileAt, Says}
 use Rattle.rule_b.specs.Rule.{Is}
 use Rattle.rule_b.proofs.Turn.{is-true, is-false}
+use Rattle.chart.specs.Net.{netIn, theoryIn}
 use Rattle.gate.specs.declared.State.{State}
 use Rattle.gate.specs.Gate.{Costs, Holds}
-use Rattle.gate.specs.Parts.{theoryAt, netAt, legOf, Boards, Rode}
+use Rattle.gate.specs.Parts.{legOf, Boards, Rode}
 
 -- no toll of a sound leg is above 65,535
 pub toll-small : (places : ℕ) (l : Leg) (t : ℕ) → SoundLeg places l → tollAt l t ≤ 65535
@@ -43,9 +44,9 @@ module _ (N : Network) (r : Ride) (state new : State) (e : new ≡ record { on =
 
 -- a ride of the network's leg l that was boarded
 pub rode-on : (s : List ℕ) (r : Ride) (state : State) (l : Leg) (toll : Cents) → l ≡ legOf s (r .leg)
-    → r .leg < length (netAt s .legs) → l .from ≡ state .place → state .time .0 ≤ r .leave
+    → r .leg < length (netIn s .legs) → l .from ≡ state .place → state .time .0 ≤ r .leave
     → toll ≡ tollAt l (r .leave) → toll ≤ 65535
-    → Rode (theoryAt s) r state (record { on = true; place = l .to; time = minute (r .leave + l .time .0); cost = record { 0 = state .cost .0 + toll } })
+    → Rode (theoryIn s) r state (record { on = true; place = l .to; time = minute (r .leave + l .time .0); cost = record { 0 = state .cost .0 + toll } })
 rode-on s r state l toll is low here after paid small = record {
   boards = record { known = low; here = ap (λ (x : Leg). x .from) (sym is) ∙ here; after = after };
   place = λ z. ap (λ (x : Leg). x .to) is;
@@ -117,25 +118,25 @@ module _ (N : Network) (goes : (l : ℕ) (d : Minute) → T (N .goes l d)) (q : 
   runs-first k n h r = let e : n ≡ k + (n - k) = omega arith in runs-part k (n - k) (rw e at r)
 
 -- a plan file's plan, once all its rides are ridden
-module _ (net s : List ℕ) (h : Says s (fileAt s)) (state : State) (w : Riding (theoryAt net) (fileAt s .query) s (field s 77 12) state) where
+module _ (net s : List ℕ) (h : Says s (fileAt s)) (state : State) (w : Riding (theoryIn net) (fileAt s .query) s (field s 77 12) state) where
   pub costs : state .place ≡ fileAt s .query .end → state .time .0 ≤ fileAt s .query .latest → state .cost .0 ≡ field s 45 32
-      → Costs (theoryAt net) (fileAt s)
+      → Costs (theoryIn net) (fileAt s)
   costs p t c = record {
     feasible = record { runs = w .runs; there = sym (w .place-is) ∙ p; by = omega (arith, w .time-is) };
     sum = sym (w .cost-is) ∙ c;
   }
 
-  pub ends-there : Costs (theoryAt net) (fileAt s) → state .place ≡ fileAt s .query .end
+  pub ends-there : Costs (theoryIn net) (fileAt s) → state .place ≡ fileAt s .query .end
   ends-there c = w .place-is ∙ c .feasible .there
 
-  pub ends-by : Costs (theoryAt net) (fileAt s) → state .time .0 ≤ fileAt s .query .latest
+  pub ends-by : Costs (theoryIn net) (fileAt s) → state .time .0 ≤ fileAt s .query .latest
   ends-by c = omega (arith, w .time-is, c .feasible .by)
 
-  pub ends-at : Costs (theoryAt net) (fileAt s) → state .cost .0 ≡ field s 45 32
+  pub ends-at : Costs (theoryIn net) (fileAt s) → state .cost .0 ≡ field s 45 32
   ends-at c = w .cost-is ∙ c .sum
 
   pub last-test : (b : Bool) (price : ℕ) → price ≡ field s 45 32 → b ≡ eqb (state .cost .0) price → field s 8 1 ≡ 1
       → state .place ≡ fileAt s .query .end → state .time .0 ≤ fileAt s .query .latest
-      → Is b (Holds (theoryAt net) (fileAt s))
+      → Is b (Holds (theoryIn net) (fileAt s))
   last-test true price e t v p u = λ z. costs p u (eqb-true (state .cost .0) price (sym t) ∙ e)
   last-test false price e t v p u = λ k. eqb-false (state .cost .0) price (sym t) (ends-at (k v) ∙ sym e)

@@ -16,8 +16,9 @@ use Rattle.rule_b.specs.Rule.{Is}
 use Rattle.rule_b.specs.Cursor.{shown}
 use Rattle.rule_b.proofs.Walks.{none-before}
 use Rattle.network.specs.declared.Size.{Size}
+use Rattle.chart.specs.Net.{netIn, theoryIn}
 use Rattle.gate.specs.Gate.{statedCost}
-use Rattle.gate.specs.Parts.{theoryAt, netAt, legOf, Known-file, Asked, RuleOf, RulesOf, Ruled}
+use Rattle.gate.specs.Parts.{legOf, Known-file, Asked, RuleOf, RulesOf, Ruled}
 use Rattle.gate.proofs.Net.{read, leg-sound}
 
 -- ---- the tests of one value
@@ -72,12 +73,12 @@ early-value q (y ∷ ys) d x h e = at (decLt d (q .earliest))
         absurd (omega arith)
 
 module _ (net s : List ℕ) (size : Size) (chart index : List ℕ) (q : Query) (sheet : List (List Step)) (h : Known-file net size chart)
-    (asked : Asked net q) (i : Indexed s (netAt net .places) index sheet)
-    (steps : (p : ℕ) → p < netAt net .places → Steps q (getD sheet p [])) where
-  at-place : (p : ℕ) → p < netAt net .places → (t : Minute) → valueAt sheet p t ≡ value (placeAt s (getD index p 0)) t
+    (asked : Asked net q) (i : Indexed s (netIn net .places) index sheet)
+    (steps : (p : ℕ) → p < netIn net .places → Steps q (getD sheet p [])) where
+  at-place : (p : ℕ) → p < netIn net .places → (t : Minute) → valueAt sheet p t ≡ value (placeAt s (getD index p 0)) t
   at-place p low t = ap (λ (ss : List Step). value ss t) (i .steps p low)
 
-  pub ruled-obeys : Ruled net s index (size .legs) q → Obeys (theoryAt net) q (valueAt sheet)
+  pub ruled-obeys : Ruled net s index (size .legs) q → Obeys (theoryIn net) q (valueAt sheet)
   ruled-obeys r = record {
     a = at-place (q .start) (asked .known .start) (q .earliest) ∙ r .a;
     b = λ l d x go e.
@@ -87,20 +88,20 @@ module _ (net s : List ℕ) (size : Size) (chart index : List ℕ) (q : Query) (
         (r .b l low d (go .late) x (sym (at-place (legOf net l .from) (sound .from-below) d) ∙ e));
   }
 
-  pub obeys-ruled : Obeys (theoryAt net) q (valueAt sheet) → Ruled net s index (size .legs) q
+  pub obeys-ruled : Obeys (theoryIn net) q (valueAt sheet) → Ruled net s index (size .legs) q
   obeys-ruled o = record {
     a = sym (at-place (q .start) (asked .known .start) (q .earliest)) ∙ o .a;
     b = λ l low d arrives x e.
         let sound = leg-sound net size chart h l low in
         let here : valueAt sheet (legOf net l .from) d ≡ some x = at-place (legOf net l .from) (sound .from-below) d ∙ e in
-        let go : Leaves (theoryAt net) q l d =
+        let go : Leaves (theoryIn net) q l d =
         record {
           known = omega (arith, read net size chart h .legs);
           goes = tt;
           early = early-value q (getD sheet (legOf net l .from) []) d x (steps (legOf net l .from) (sound .from-below)) here;
           late = arrives;
         } in
-        subst (λ v. AtMost v (x + theoryAt net .toll l d)) (at-place (legOf net l .to) (sound .to-below) (d + legOf net l .time .0))
+        subst (λ v. AtMost v (x + theoryIn net .toll l d)) (at-place (legOf net l .to) (sound .to-below) (d + legOf net l .time .0))
         (o .b l d x go here);
   }
 

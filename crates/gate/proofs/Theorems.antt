@@ -10,12 +10,10 @@ use Rattle.answer.specs.declared.Refusal.{Refusal}
 use Rattle.source.specs.Source.{fileOf}
 use Rattle.network.specs.Reading.{Found, refused, found}
 use Rattle.network.specs.Network.{Network as NetworkFile, ofFile}
-use Rattle.network.proofs.Sound.{SoundLeg, SoundNetwork, network-sound}
+use Rattle.network.proofs.Sound.{network-sound}
 use Rattle.plan.specs.Network.{Cents, Network, Query, Askable}
 use Rattle.plan.specs.Plan.{Ride, cost, Feasible}
 use Rattle.plan.specs.Sheet.{Step, valueAt, Obeys, TightFor, OurSheet}
-use Rattle.plan.specs.Legs.{noLeg}
-use Rattle.plan.proofs.Legs.{LegInRange, legs-in-range}
 use Rattle.plan.proofs.Values.{Falls, tight-least, tight-none}
 use Rattle.plan.proofs.Sheets.{sheet-falls, least-tight, our-sheet-obeys, our-sheet-none}
 use Rattle.plan_file.specs.PlanFile.{PlanFile}
@@ -23,7 +21,9 @@ use Rattle.plan_file.proofs.Files.{one-plan}
 use Rattle.plan_reader.specs.InPlace.{Says}
 use Rattle.sheet_file.specs.SheetFile.{sheetOf}
 use Rattle.sheet_file.proofs.Found.{sheet-steps, sheet-size}
-use Rattle.gate.specs.Gate.{theory, Known, Costs, Holds, stated, OfSheet, OfPlan, OfFiles, OfNetwork, GateSays}
+use Rattle.chart.specs.Net.{theory}
+use Rattle.chart.proofs.Net.{sound-ranges}
+use Rattle.gate.specs.Gate.{Known, Costs, Holds, stated, OfSheet, OfPlan, OfFiles, OfNetwork, GateSays}
 use Rattle.gate.proofs.Sheets.{stated-none, stated-some}
 
 -- done is no refusal
@@ -117,16 +117,12 @@ module _ (net plan sheet : List ℕ) where
 pub askable : (net : List ℕ) (n : NetworkFile) (end : ℕ) (q : Query) → ofFile net ≡ found n end → Known (n .places) q → q .earliest ≤ q .latest
     → Askable (theory n) q
 askable net n end q is k w =
-    let s : SoundNetwork n = network-sound (fileOf net) n end is in
     record {
-      ranges = legs-in-range (n .places) (n .legs) (s .few-places) (λ l low. in-range (s .each-leg l noLeg low));
+      ranges = sound-ranges n (network-sound (fileOf net) n end is);
       home = k .start;
       goal = k .end;
       window = w;
     }
-  where
-    in-range : {l : Rattle.leg.specs.declared.Leg.Leg} → SoundLeg (n .places) l → LegInRange (n .places) l
-    in-range s = record { source = s .from-below; target = s .to-below; tolls = s .tolls-within }
 
 module _ (net plan sheet : List ℕ) (a : Accepts net plan sheet) where
   falls : Falls (a .file .query) (valueAt (a .steps))

@@ -13,14 +13,10 @@ use Rattle.network.specs.Network.{Network as NetworkFile, ofFile}
 use Rattle.plan.specs.Network.{Cents, Network, Query}
 use Rattle.plan.specs.Plan.{cost, Feasible}
 use Rattle.plan.specs.Sheet.{Step, valueAt, Obeys, TightFor}
-use Rattle.plan.specs.Legs.{networkOf}
+use Rattle.chart.specs.Net.{theory}
 use Rattle.plan_file.specs.PlanFile.{PlanFile}
 use Rattle.plan_reader.specs.InPlace.{Says}
 use Rattle.sheet_file.specs.SheetFile.{sheetOf}
-
--- the theory's network of a network file
-abbrev pub theory : NetworkFile → Network
-theory net = networkOf (net .places) (net .legs)
 
 -- 6: start and end are places, and the times are minutes
 pub record Known (places : ℕ) (q : Query) : Type 0 where

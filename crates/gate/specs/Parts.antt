@@ -3,15 +3,16 @@ use Prim.Native.Nat.{ℕ, _+_, _*_, _≤_, _<_}
 use mathlib.Core.Path.{_≡_}
 use mathlib.Core.Bool.{Bool, true, false}
 use mathlib.Core.Option.{some}
-use mathlib.Core.List.{List, []}
+use mathlib.Core.List.{List}
 use lib.ListN.{length, getD}
 use Rattle.leg.specs.declared.Leg.{Leg}
-use Rattle.network.specs.Reading.{Found, refused, found}
-use Rattle.network.specs.Network.{Network as NetworkFile, ofFile}
+use Rattle.network.specs.Reading.{Found}
+use Rattle.network.specs.Network.{ofFile}
 use Rattle.network.specs.declared.NetworkFound.{NetworkFound}
 use Rattle.network.specs.declared.Size.{Size}
 use Rattle.network.specs.Answers.{networkFound}
 use Rattle.chart.specs.Chart.{Chart}
+use Rattle.chart.specs.Net.{netIn}
 use Rattle.plan.specs.Network.{Minute, Cents, Network, Query}
 use Rattle.plan.specs.Plan.{Ride, arrives}
 use Rattle.plan.specs.Legs.{noLeg}
@@ -23,20 +24,7 @@ use Rattle.sheet_file.specs.InPlace.{placeAt}
 use Rattle.sheet_file.specs.Window.{window}
 use Rattle.gate.specs.declared.State.{State}
 use Rattle.sheet_file.specs.SheetFile.{sheetOf}
-use Rattle.gate.specs.Gate.{theory, Known}
-
--- the network that bytes stand for, where they do
-abbrev pub netOf : Found NetworkFile → NetworkFile
-netOf (refused why) = record { places = 0; legs = [] }
-netOf (found net end) = net
-
--- the network that these bytes stand for
-abbrev pub netAt : List ℕ → NetworkFile
-netAt s = netOf (ofFile s)
-
--- the theory's network of these bytes
-abbrev pub theoryAt : List ℕ → Network
-theoryAt s = theory (netAt s)
+use Rattle.gate.specs.Gate.{Known}
 
 -- a sound network file, its size and its chart
 pub record Known-file (s : List ℕ) (size : Size) (chart : List ℕ) : Type 0 where
@@ -59,12 +47,12 @@ pub record Rode (N : Network) (r : Ride) (old new : State) : Type 0 where
 
 -- a query that the gate goes on with
 pub record Asked (s : List ℕ) (q : Query) : Type 0 where
-  pub known : Known (netAt s .places) q
+  pub known : Known (netIn s .places) q
   pub window : q .earliest ≤ q .latest
 
 -- the sheet that bytes stand for, for the network of other bytes
 abbrev pub sheetAt : List ℕ → List ℕ → Query → Found (List (List Step))
-sheetAt net s q = sheetOf (netAt net .places) q s
+sheetAt net s q = sheetOf (netIn net .places) q s
 
 -- every place's steps are as described and lie in the file, from the bit that the index gives
 pub record Placed (s : List ℕ) (places : ℕ) (q : Query) (index : List ℕ) : Type 0 where
@@ -74,7 +62,7 @@ pub record Placed (s : List ℕ) (places : ℕ) (q : Query) (index : List ℕ) :
 
 -- leg k of the network that bytes stand for
 abbrev pub legOf : List ℕ → ℕ → Leg
-legOf s k = getD (netAt s .legs) k noLeg
+legOf s k = getD (netIn s .legs) k noLeg
 
 -- rule (b) for leg k, over the steps where they stand
 abbrev pub RuleOf : List ℕ → List ℕ → List ℕ → Minute → ℕ → Type 0

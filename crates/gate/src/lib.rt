@@ -15,8 +15,9 @@ ghost use Rattle.sheet_file.specs.Window.{window};
 ghost use Rattle.rule_b.specs.Rule.{Is};
 ghost use Rattle.rule_b.specs.Cursor.{PlaceAsked};
 ghost use Rattle.rule_cards.specs.Cards.{LaidOut};
+ghost use Rattle.chart.specs.Net.{netIn, theoryIn};
 ghost use Rattle.gate.specs.Gate.{Known, Holds, statedCost, OfSheet, OfPlan, OfFiles, GateSays};
-ghost use Rattle.gate.specs.Parts.{netAt, theoryAt, sheetAt, windowOf, Known-file, Rode, Asked, Placed, RuleOf, RulesOf, Ruled};
+ghost use Rattle.gate.specs.Parts.{sheetAt, windowOf, Known-file, Rode, Asked, Placed, RuleOf, RulesOf, Ruled};
 use answer::Answer;
 use answer::Refusal;
 use leg::Cents;
@@ -71,7 +72,7 @@ fn off(state: State) -> State
 // One ride of a plan further.
 fn ride(net: &[u8], size: Size, chart: &[u32; 512], plan: &[u8], k: usize, state: State) -> State
     requires { ⌜ Known-file (now net) size (now chart) × (89 + 21 * (k + 1) ≤ 8 * length (now plan)) × (k ≤ 4096) × (state .cost .0 ≤ 1000000000) ⌝ }
-    ensures { λ r. ⌜ Rode (theoryAt (now (net .entry))) (rideAt (now (plan .entry)) k) state r ⌝ }
+    ensures { λ r. ⌜ Rode (theoryIn (now (net .entry))) (rideAt (now (plan .entry)) k) state r ⌝ }
 {
     let said = reader::pair(plan, 89 + 21 * k, 9, 12);
     let number = said.first as usize;
@@ -102,7 +103,7 @@ fn ride(net: &[u8], size: Size, chart: &[u32; 512], plan: &[u8], k: usize, state
 // Is the plan feasible, at the cost that it states? "None" states nothing.
 fn plan_holds(net: &[u8], size: Size, chart: &[u32; 512], plan: &[u8], read: Plan) -> bool
     requires { ⌜ Known-file (now net) size (now chart) × Says (now plan) (fileAt (now plan)) × Headed (now plan) read ⌝ }
-    ensures { λ r. ⌜ Is r (Holds (theoryAt (now (net .entry))) (fileAt (now (plan .entry)))) ⌝ }
+    ensures { λ r. ⌜ Is r (Holds (theoryIn (now (net .entry))) (fileAt (now (plan .entry)))) ⌝ }
 {
     if read.verdict == 0 {
         return true;
@@ -289,7 +290,7 @@ fn tight(
 // The sheet, after the plan.
 fn judge_sheet(net: &[u8], size: Size, chart: &[u32; 512], sheet: &[u8], read: Plan) -> Answer
     requires { ⌜ Known-file (now net) size (now chart) × Asked (now net) (queryOf (read .query)) ⌝ }
-    ensures { λ r. ⌜ OfSheet r (theoryAt (now (net .entry))) (queryOf (read .query)) (statedCost (read .verdict) (read .cost .0)) (sheetAt (now (net .entry)) (now (sheet .entry)) (queryOf (read .query))) ⌝ }
+    ensures { λ r. ⌜ OfSheet r (theoryIn (now (net .entry))) (queryOf (read .query)) (statedCost (read .verdict) (read .cost .0)) (sheetAt (now (net .entry)) (now (sheet .entry)) (queryOf (read .query))) ⌝ }
 {
     let query = read.query;
     let earliest = query.earliest;
@@ -313,7 +314,7 @@ fn judge_sheet(net: &[u8], size: Size, chart: &[u32; 512], sheet: &[u8], read: P
 // The query and the plan, then the sheet.
 fn judge_plan(net: &[u8], size: Size, sheet: &[u8], plan: &[u8], read: Plan) -> Answer
     requires { ⌜ (networkFound (ofFile (now net)) ≡ NetworkFound.Sound size) × Says (now plan) (fileAt (now plan)) × Headed (now plan) read ⌝ }
-    ensures { λ r. ⌜ OfPlan r (netAt (now (net .entry))) (fileAt (now (plan .entry))) (now (sheet .entry)) ⌝ }
+    ensures { λ r. ⌜ OfPlan r (netIn (now (net .entry))) (fileAt (now (plan .entry))) (now (sheet .entry)) ⌝ }
 {
     let query = read.query;
     if !known(size.places, query) {
@@ -332,7 +333,7 @@ fn judge_plan(net: &[u8], size: Size, sheet: &[u8], plan: &[u8], read: Plan) -> 
 // The plan file, after the network.
 fn judge_files(net: &[u8], size: Size, plan: &[u8], sheet: &[u8]) -> Answer
     requires { ⌜ networkFound (ofFile (now net)) ≡ NetworkFound.Sound size ⌝ }
-    ensures { λ r. ⌜ OfFiles r (netAt (now (net .entry))) (now (plan .entry)) (now (sheet .entry)) ⌝ }
+    ensures { λ r. ⌜ OfFiles r (netIn (now (net .entry))) (now (plan .entry)) (now (sheet .entry)) ⌝ }
 {
     let read = plan_reader::plan_from(plan);
     if !read.sound {

@@ -13,11 +13,12 @@ use Rattle.plan.specs.Network.{Minute, Network, Query}
 use Rattle.plan.specs.Table.{noPlan, cellAt}
 use Rattle.plan.proofs.Named.{none-feasible}
 use Rattle.chart.specs.Chart.{Chart}
+use Rattle.chart.specs.Net.{theoryIn}
 use Rattle.plan_file.specs.declared.Query.{Query as Asked}
 use Rattle.plan_file.specs.PlanFile.{PlanFile, queryOf, planBytes, planFile, noneFile, FileOf}
 use Rattle.plan_file.proofs.Files.{plan-size}
 use Rattle.walk.specs.Cells.{InTable, FirstLike}
-use Rattle.walk.specs.Walk.{netOf, Ending, NamedFile}
+use Rattle.walk.specs.Walk.{Ending, NamedFile}
 use Rattle.tabled.specs.Tabled.{Tabled}
 use Rattle.tabled.proofs.Serving.{cell-in}
 use Rattle.plan_call.specs.Call.{Right, plan, none, Answered}
@@ -46,8 +47,8 @@ room N q out bytes file given right is n size h =
 
 module _ (s : List ℕ) (size : Size) (a : Asked) (cells : List ℕ) (k : Tabled s size a cells) where
   -- no plan at latest: none is feasible
-  pub none-right : cellAt (queryOf a) cells (a .end) (a .latest .0) ≡ noPlan → Right (netOf s) (queryOf a) (noneFile (queryOf a)) PlanAnswer.NoPlan
-  none-right e = none (none-feasible (netOf s) (queryOf a) (k .servable .asked) (cellAt (queryOf a) cells) (k .table) e)
+  pub none-right : cellAt (queryOf a) cells (a .end) (a .latest .0) ≡ noPlan → Right (theoryIn s) (queryOf a) (noneFile (queryOf a)) PlanAnswer.NoPlan
+  none-right e = none (none-feasible (theoryIn s) (queryOf a) (k .servable .asked) (cellAt (queryOf a) cells) (k .table) e)
 
   module _ (n : cellAt (queryOf a) cells (a .end) (a .latest .0) ≢ noPlan) (t : Minute)
       (f : FirstLike (queryOf a) (cellAt (queryOf a) cells) (a .end) 64 (a .latest .0) t) where
@@ -72,9 +73,9 @@ module _ (s : List ℕ) (size : Size) (a : Asked) (cells : List ℕ) (k : Tabled
 
     -- the plan's file does not fit
     pub too-long : (here : ℕ) → here ≡ cellAt (queryOf a) cells (a .end) t → (out : List ℕ) → length out < (96 + 21 * (here % 64)) / 8
-        → Answered (netOf s) (queryOf a) out out (PlanAnswer.Refused Room)
+        → Answered (theoryIn s) (queryOf a) out out (PlanAnswer.Refused Room)
     too-long here is out h =
-        let N = netOf s in
+        let N = theoryIn s in
         let p = named-there N (queryOf a) (k .servable .asked) (cellAt (queryOf a) cells) (k .table) n in
         let legs = named-legs N (queryOf a) (k .servable .asked) (cellAt (queryOf a) cells) (k .table) n t f (p .0) (p .1) in
         let same : length (p .0) ≡ here % 64 = legs ∙ ap (λ (x : ℕ). x % 64) (sym is) in

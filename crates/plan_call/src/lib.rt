@@ -1,8 +1,8 @@
 // The plan call: the table filled, the walk back, and the plan file.
 ghost use Rattle.plan_file.specs.PlanFile.{queryOf};
-ghost use Rattle.walk.specs.Walk.{netOf};
 ghost use Rattle.tabled.specs.Comes.{asking};
 ghost use Rattle.tabled.specs.Tabled.{Tabled};
+ghost use Rattle.chart.specs.Net.{theoryIn};
 ghost use Rattle.plan_call.specs.Call.{Answered, Plans};
 use answer::PlanAnswer;
 use answer::Refusal;
@@ -14,7 +14,7 @@ use tabled::Tabling;
 // 9, 10 and 0, from a filled table.
 fn answer(net: &[u8], size: Size, query: Query, cells: &[u32], out: &mut [u8]) -> PlanAnswer
     requires { ⌜ Tabled (now net) size query (now cells) ⌝ }
-    ensures { λ r. ⌜ Answered (netOf (now (net .entry))) (queryOf query) (now (out .entry)) (now (out .exit)) r ⌝ }
+    ensures { λ r. ⌜ Answered (theoryIn (now (net .entry))) (queryOf query) (now (out .entry)) (now (out .exit)) r ⌝ }
 {
     let end = query.end;
     let latest = query.latest;

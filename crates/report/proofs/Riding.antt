@@ -13,12 +13,14 @@ use Rattle.network.specs.declared.Size.{Size}
 use Rattle.network.specs.Network.{edition1, leg}
 use Rattle.network.specs.Answers.{legFound}
 use Rattle.chart.specs.Chart.{Chart}
+use Rattle.chart.specs.Net.{theoryIn}
+use Rattle.chart.proofs.Net.{legs-are, few-legs}
 use Rattle.plan.specs.Network.{Network, Query}
 use Rattle.plan.specs.Plan.{Ride, arrival, Runs, Follows}
 use Rattle.plan_file.specs.PlanFile.{rideOf, ridesFields}
 use Rattle.plan_file.proofs.Files.{rides-last}
-use Rattle.walk.specs.Walk.{netOf, LegStands}
-use Rattle.walk.proofs.Nets.{legs-are, few-legs, leg-stands, has-leg}
+use Rattle.walk.specs.Walk.{LegStands}
+use Rattle.walk.proofs.Nets.{leg-stands, has-leg}
 use Rattle.text.specs.Text.{Adds}
 use Rattle.text.proofs.Adding.{adds-then}
 use Rattle.report.specs.Rides.{ridesIn, Ridden}
@@ -50,13 +52,13 @@ module _ (s : List ℕ) (size : Size) (plan : List ℕ) (q : Query) where
         sound = r .sound;
         room = omega (arith, r .room);
         few = omega (arith, r .few);
-        runs = runs-less (netOf s) q plan (n - k) k (subst (λ (m : ℕ). Runs (netOf s) q (ridesIn plan m)) e (r .runs));
+        runs = runs-less (theoryIn s) q plan (n - k) k (subst (λ (m : ℕ). Runs (theoryIn s) q (ridesIn plan m)) e (r .runs));
       }
 
   -- the last of them
   pub last-ride : (n k : ℕ) → n ≡ suc k → Ridden s size plan q n
-      → Follows (netOf s) q (ridesIn plan k) (rideOf (field plan (89 + 21 * k) 9) (field plan (89 + 21 * k + 9) 12))
-  last-ride n k e r = let all : Runs (netOf s) q (ridesIn plan (suc k)) = subst (λ (m : ℕ). Runs (netOf s) q (ridesIn plan m)) e (r .runs) in all .0
+      → Follows (theoryIn s) q (ridesIn plan k) (rideOf (field plan (89 + 21 * k) 9) (field plan (89 + 21 * k + 9) 12))
+  last-ride n k e r = let all : Runs (theoryIn s) q (ridesIn plan (suc k)) = subst (λ (m : ℕ). Runs (theoryIn s) q (ridesIn plan m)) e (r .runs) in all .0
 
   pub leg-below : (n k : ℕ) → n ≡ suc k → Ridden s size plan q n → field plan (89 + 21 * k) 9 < size .legs
   leg-below n k e r = omega (arith, last-ride n k e r .known, legs-are s size (r .sound))
@@ -79,11 +81,11 @@ module _ (s : List ℕ) (size : Size) (plan : List ℕ) (q : Query) where
         pub small-sum : d + l .time .0 ≤ 7000
         small-sum = omega (arith, de, field-below plan (89 + 21 * k + 9) 12, stands-there .time-within, ap (λ (x : Leg). x .time .0) the-leg)
 
-        pub arrives-then : d + l .time .0 ≡ arrival (netOf s) q (ridesIn plan n)
+        pub arrives-then : d + l .time .0 ≡ arrival (theoryIn s) q (ridesIn plan n)
         arrives-then =
             let has = has-leg s size (r .sound) chart charted (field plan (89 + 21 * k) 9) (leg-below n k e r) l the-leg in
-            let there : d + l .time .0 ≡ arrival (netOf s) q (ridesIn plan (suc k)) = omega (arith, de, has .time) in
-            there ∙ ap (λ (m : ℕ). arrival (netOf s) q (ridesIn plan m)) (sym e)
+            let there : d + l .time .0 ≡ arrival (theoryIn s) q (ridesIn plan (suc k)) = omega (arith, de, has .time) in
+            there ∙ ap (λ (m : ℕ). arrival (theoryIn s) q (ridesIn plan m)) (sym e)
 
 -- no ride
 pub arrives-first : (N : Network) (q : Query) (plan : List ℕ) (n : ℕ) → n ≡ 0 → q .earliest ≡ arrival N q (ridesIn plan n)

@@ -26,12 +26,12 @@ use Rattle.plan.specs.Tie.{Named}
 use Rattle.plan.proofs.Named.{named-fits}
 use Rattle.plan_file.specs.PlanFile.{PlanFile, rideOf, planBytes, planFile, FileOf}
 use Rattle.plan_file.proofs.Files.{plan-size, plan-head, plan-rides}
-use Rattle.walk.specs.Walk.{netOf}
 use Rattle.tabled.specs.Judge.{Judged, refuse, serve, judged}
 use Rattle.tabled.specs.Comes.{Comes}
 use Rattle.tabled.proofs.Judging.{judged-refused, comes-to}
 use Rattle.plan_call.specs.Call.{Right, plan, none, Output, Answered, Plans}
 use Rattle.text.specs.Text.{Adds}
+use Rattle.chart.specs.Net.{theoryIn}
 use Rattle.report.specs.Rides.{ridesIn, Ridden}
 use Rattle.report.specs.Report.{answerText, costText, arriveText, ridesText, Shows, shown, nothing, Prints, latestOf, queryIn, Whole, Reports}
 use Rattle.report.proofs.Riding.{rides-are}
@@ -109,25 +109,25 @@ module _ (N : Network) (q : Query) (asked : Askable N q) where
 
 module _ (s : List ℕ) (q : Query) (table table′ out out′ : List ℕ) (lent : 177 ≤ length out) where
   pub plan-done : (answer : PlanAnswer) (n : ℕ) → answer ≡ PlanAnswer.Done n → Plans s q table table′ out out′ answer
-      → (judged (ofFile s) q (length table) ≡ serve (netOf s)) × Told (netOf s) q out′
+      → (judged (ofFile s) q (length table) ≡ serve (theoryIn s)) × Told (theoryIn s) q out′
   plan-done answer n e p = at (comes-to s q (length table))
     where
-      at : ((why : Refusal) × (judged (ofFile s) q (length table) ≡ refuse why)) ⊎ ((judged (ofFile s) q (length table) ≡ serve (netOf s)) × Askable (netOf s) q)
-          → (judged (ofFile s) q (length table) ≡ serve (netOf s)) × Told (netOf s) q out′
+      at : ((why : Refusal) × (judged (ofFile s) q (length table) ≡ refuse why)) ⊎ ((judged (ofFile s) q (length table) ≡ serve (theoryIn s)) × Askable (theoryIn s) q)
+          → (judged (ofFile s) q (length table) ≡ serve (theoryIn s)) × Told (theoryIn s) q out′
       at (inl (why, j)) =
           let u = subst (λ (x : Judged). Comes Answered x q table table′ out out′ answer) j (p .comes) in
           let f = u .answer-is in
           let z : _≡_ {A = ℕ} 0 1 = cc in absurd (omega arith)
       at (inr (j, asked)) =
           let u = subst (λ (x : Judged). Comes Answered x q table table′ out out′ answer) j (p .comes) in
-          let d = data-in (netOf s) q asked out out′ lent answer (u .answered) in
-          (j, done (netOf s) q asked out out′ lent n (d .0) (d .1) _ (d .2) (sym e ∙ d .3) (d .4))
+          let d = data-in (theoryIn s) q asked out out′ lent answer (u .answered) in
+          (j, done (theoryIn s) q asked out out′ lent n (d .0) (d .1) _ (d .2) (sym e ∙ d .3) (d .4))
 
   pub plan-none : (answer : PlanAnswer) (n : ℕ) → answer ≡ PlanAnswer.NoPlan n → Plans s q table table′ out out′ answer
       → Prints (judged (ofFile s) q (length table)) q (answerText 10)
   plan-none answer n e p = at (comes-to s q (length table))
     where
-      at : ((why : Refusal) × (judged (ofFile s) q (length table) ≡ refuse why)) ⊎ ((judged (ofFile s) q (length table) ≡ serve (netOf s)) × Askable (netOf s) q)
+      at : ((why : Refusal) × (judged (ofFile s) q (length table) ≡ refuse why)) ⊎ ((judged (ofFile s) q (length table) ≡ serve (theoryIn s)) × Askable (theoryIn s) q)
           → Prints (judged (ofFile s) q (length table)) q (answerText 10)
       at (inl (why, j)) =
           let u = subst (λ (x : Judged). Comes Answered x q table table′ out out′ answer) j (p .comes) in
@@ -135,15 +135,15 @@ module _ (s : List ℕ) (q : Query) (table table′ out out′ : List ℕ) (lent
           let z : _≡_ {A = ℕ} 0 1 = cc in absurd (omega arith)
       at (inr (j, asked)) =
           let u = subst (λ (x : Judged). Comes Answered x q table table′ out out′ answer) j (p .comes) in
-          let d = data-in (netOf s) q asked out out′ lent answer (u .answered) in
+          let d = data-in (theoryIn s) q asked out out′ lent answer (u .answered) in
           subst (λ (x : Judged). Prints x q (answerText 10)) (sym j)
-          (nothing (not-done (netOf s) q asked out out′ lent n (d .0) (d .1) _ (d .2) (sym e ∙ d .3)))
+          (nothing (not-done (theoryIn s) q asked out out′ lent n (d .0) (d .1) _ (d .2) (sym e ∙ d .3)))
 
   pub plan-refused : (answer : PlanAnswer) (why : Refusal) (k : ℕ) → k ≡ numberOf why → answer ≡ PlanAnswer.Refused why → Plans s q table table′ out out′ answer
       → Prints (judged (ofFile s) q (length table)) q (answerText k)
   plan-refused answer why k is e p = subst (λ (n : ℕ). Prints (judged (ofFile s) q (length table)) q (answerText n)) (sym is) (at (comes-to s q (length table)))
     where
-      at : ((w : Refusal) × (judged (ofFile s) q (length table) ≡ refuse w)) ⊎ ((judged (ofFile s) q (length table) ≡ serve (netOf s)) × Askable (netOf s) q)
+      at : ((w : Refusal) × (judged (ofFile s) q (length table) ≡ refuse w)) ⊎ ((judged (ofFile s) q (length table) ≡ serve (theoryIn s)) × Askable (theoryIn s) q)
           → Prints (judged (ofFile s) q (length table)) q (answerText (numberOf why))
       at (inl (w, j)) =
           let u = subst (λ (x : Judged). Comes Answered x q table table′ out out′ answer) j (p .comes) in
@@ -152,15 +152,15 @@ module _ (s : List ℕ) (q : Query) (table table′ out out′ : List ℕ) (lent
           subst (λ (x : Judged). Prints x q (answerText (numberOf why))) (sym j) (ap (λ (x : Refusal). answerText (numberOf x)) same)
       at (inr (j, asked)) =
           let u = subst (λ (x : Judged). Comes Answered x q table table′ out out′ answer) j (p .comes) in
-          let d = data-in (netOf s) q asked out out′ lent answer (u .answered) in
-          absurd (no-refusal (netOf s) q asked out out′ lent why (d .0) (d .1) _ (d .2) (sym e ∙ d .3))
+          let d = data-in (theoryIn s) q asked out out′ lent answer (u .answered) in
+          absurd (no-refusal (theoryIn s) q asked out out′ lent why (d .0) (d .1) _ (d .2) (sym e ∙ d .3))
 
 pub net-refused : (s : List ℕ) (q : Query) (n : ℕ) (why : Refusal) (k : ℕ) → k ≡ numberOf why → networkFound (ofFile s) ≡ NetworkFound.Refused why
     → Prints (judged (ofFile s) q n) q (answerText k)
 net-refused s q n why k is e = subst (λ (x : Judged). Prints x q (answerText k)) (sym (judged-refused (ofFile s) q n why e)) (ap answerText is)
 
 -- what is asked of a plan file before it is printed, and what is then printed
-module _ (s : List ℕ) (q : Query) (file : List ℕ) (t : Told (netOf s) q file) where
+module _ (s : List ℕ) (q : Query) (file : List ℕ) (t : Told (theoryIn s) q file) where
   told-rides : ridesIn file (field file 77 12) ≡ t .rides
   told-rides = ap (ridesIn file) (t .legs) ∙ t .same
 
@@ -170,13 +170,13 @@ module _ (s : List ℕ) (q : Query) (file : List ℕ) (t : Told (netOf s) q file
         sound = ok;
         room = omega (arith, t .legs, t .room);
         few = omega (arith, t .legs, t .few);
-        runs = subst (Runs (netOf s) q) (sym told-rides) (t .named .feasible .runs);
+        runs = subst (Runs (theoryIn s) q) (sym told-rides) (t .named .feasible .runs);
       }
 
-  pub told-text : (n : ℕ) → judged (ofFile s) q n ≡ serve (netOf s) → Prints (judged (ofFile s) q n) q
-      (answerText 0 ++ (costText (field file 45 32) ++ (arriveText (arrival (netOf s) q (ridesIn file (field file 77 12))) ++ ridesText (netOf s) q (ridesIn file (field file 77 12)))))
+  pub told-text : (n : ℕ) → judged (ofFile s) q n ≡ serve (theoryIn s) → Prints (judged (ofFile s) q n) q
+      (answerText 0 ++ (costText (field file 45 32) ++ (arriveText (arrival (theoryIn s) q (ridesIn file (field file 77 12))) ++ ridesText (theoryIn s) q (ridesIn file (field file 77 12)))))
   told-text n j =
-      let N = netOf s in
+      let N = theoryIn s in
       let whole = ap (λ (c : ℕ). answerText 0 ++ (costText c ++ (arriveText (arrival N q (ridesIn file (field file 77 12))) ++ ridesText N q (ridesIn file (field file 77 12))))) (t .price)
       ∙ ap (λ (rs : List Ride). answerText 0 ++ (costText (cost N (t .rides)) ++ (arriveText (arrival N q rs) ++ ridesText N q rs))) told-rides in
       subst (λ (x : Judged). Prints x q (answerText 0 ++ (costText (field file 45 32) ++ (arriveText (arrival N q (ridesIn file (field file 77 12))) ++ ridesText N q (ridesIn file (field file 77 12)))))) (sym j) (subst (Shows N q) (sym whole) (shown (t .rides) (t .named)))

@@ -9,10 +9,10 @@ use Rattle.network.specs.declared.Size.{Size}
 use Rattle.network.specs.Network.{ofFile}
 use Rattle.network.specs.Answers.{networkFound}
 use Rattle.chart.specs.Chart.{Chart}
+use Rattle.chart.specs.Net.{theoryIn}
 use Rattle.plan.specs.Network.{Query}
 use Rattle.plan.specs.Plan.{Ride, Runs}
 use Rattle.plan_file.specs.PlanFile.{rideOf}
-use Rattle.walk.specs.Walk.{netOf}
 
 -- the first n rides, as the theory has them, the last ride first
 abbrev pub ridesIn : List ℕ → ℕ → List Ride
@@ -24,4 +24,4 @@ pub record Ridden (s : List ℕ) (size : Size) (plan : List ℕ) (q : Query) (n 
   pub sound : networkFound (ofFile s) ≡ NetworkFound.Sound size
   pub room : 89 + 21 * n ≤ 8 * length plan
   pub few : n ≤ 63
-  pub runs : Runs (netOf s) q (ridesIn plan n)
+  pub runs : Runs (theoryIn s) q (ridesIn plan n)

@@ -6,9 +6,9 @@ ghost use lib.ListN.{length, take};
 ghost use Rattle.bits.specs.Field.{field};
 ghost use Rattle.network.specs.Network.{ofFile};
 ghost use Rattle.chart.specs.Chart.{Chart};
+ghost use Rattle.chart.specs.Net.{theoryIn};
 ghost use Rattle.plan.specs.Plan.{arrival};
 ghost use Rattle.plan_file.specs.PlanFile.{queryOf};
-ghost use Rattle.walk.specs.Walk.{netOf};
 ghost use Rattle.tabled.specs.Judge.{judged};
 ghost use Rattle.text.specs.Text.{Adds};
 ghost use Rattle.report.specs.Report.{answerText, costText, arriveText, legText, ridesText, latestOf, Prints, Reports};
@@ -49,7 +49,7 @@ fn arrival_after(
     count: usize,
 ) -> u32
     requires { ⌜ Chart (now net) (now chart) × Ridden (now net) size (now plan) (queryOf query) count ⌝ }
-    ensures { λ r. ⌜ r ≡ arrival (netOf (now (net .entry))) (queryOf query) (ridesIn (now (plan .entry)) count) ⌝ }
+    ensures { λ r. ⌜ r ≡ arrival (theoryIn (now (net .entry))) (queryOf query) (ridesIn (now (plan .entry)) count) ⌝ }
 {
     let earliest = query.earliest;
     if count == 0 {
@@ -78,7 +78,7 @@ fn ride_line(
     requires { ⌜ Chart (now net) (now chart) × Ridden (now net) size (now plan) (queryOf query) (k + 1) × (at + 48 ≤ length (now text)) ⌝ }
     ensures { λ r. ⌜ Adds (now (text .entry)) (now (text .exit)) at r
         (legText (field (now (plan .entry)) (89 + 21 * k) 9) (field (now (plan .entry)) (89 + 21 * k + 9) 12)
-        (field (now (plan .entry)) (89 + 21 * k + 9) 12 - arrival (netOf (now (net .entry))) (queryOf query) (ridesIn (now (plan .entry)) k)))
+        (field (now (plan .entry)) (89 + 21 * k + 9) 12 - arrival (theoryIn (now (net .entry))) (queryOf query) (ridesIn (now (plan .entry)) k)))
         × (r ≤ at + 48) ⌝ }
 {
     let place = 89 + 21 * k;
@@ -101,7 +101,7 @@ fn ride_lines(
     at: usize,
 ) -> usize
     requires { ⌜ Chart (now net) (now chart) × Ridden (now net) size (now plan) (queryOf query) count × (at + 48 * 63 ≤ length (now text)) ⌝ }
-    ensures { λ r. ⌜ Adds (now (text .entry)) (now (text .exit)) at r (ridesText (netOf (now (net .entry))) (queryOf query) (ridesIn (now (plan .entry)) count)) ⌝ }
+    ensures { λ r. ⌜ Adds (now (text .entry)) (now (text .exit)) at r (ridesText (theoryIn (now (net .entry))) (queryOf query) (ridesIn (now (plan .entry)) count)) ⌝ }
 {
     let mut to = at;
     let mut k = 0;
@@ -117,8 +117,8 @@ fn plan_lines(net: &[u8], size: Size, plan: &[u8], query: Query, text: &mut [u8]
     requires { ⌜ Ridden (now net) size (now plan) (queryOf query) (field (now plan) 77 12) × (4096 ≤ length (now text)) ⌝ }
     ensures { λ r. ⌜ Adds (now (text .entry)) (now (text .exit)) 0 r
         (answerText 0 ++ (costText (field (now (plan .entry)) 45 32)
-        ++ (arriveText (arrival (netOf (now (net .entry))) (queryOf query) (ridesIn (now (plan .entry)) (field (now (plan .entry)) 77 12)))
-        ++ ridesText (netOf (now (net .entry))) (queryOf query) (ridesIn (now (plan .entry)) (field (now (plan .entry)) 77 12))))) ⌝ }
+        ++ (arriveText (arrival (theoryIn (now (net .entry))) (queryOf query) (ridesIn (now (plan .entry)) (field (now (plan .entry)) 77 12)))
+        ++ ridesText (theoryIn (now (net .entry))) (queryOf query) (ridesIn (now (plan .entry)) (field (now (plan .entry)) 77 12))))) ⌝ }
 {
     let chart = chart::chart(net, size);
     let cost = reader::field(plan, 45, 32);

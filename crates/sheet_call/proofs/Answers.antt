@@ -23,9 +23,9 @@ use Rattle.plan_file.specs.declared.Query.{Query as Asked}
 use Rattle.plan_file.specs.PlanFile.{queryOf}
 use Rattle.plan_file.specs.Puts.{Puts}
 use Rattle.plan_file.proofs.Puts.{puts-one, puts-then, puts-packed}
-use Rattle.walk.specs.Walk.{netOf}
-use Rattle.walk.proofs.Nets.{places-are, few-places}
 use Rattle.tabled.specs.Tabled.{Tabled}
+use Rattle.chart.specs.Net.{theoryIn}
+use Rattle.chart.proofs.Net.{places-are, few-places}
 use Rattle.sheet_call.specs.Rows.{sheetIn}
 use Rattle.sheet_file.specs.Fields.{placesFields, sheetBytes, FileOf}
 use Rattle.sheet_call.specs.Sheet.{Right, some, none, Answered}
@@ -66,38 +66,38 @@ module _ (s : List ℕ) (size : Size) (a : Asked) (cells : List ℕ) (k : Tabled
   pub rows : Table cells (width (queryOf a)) (size .places)
   rows = record { few = few-places s size (k .servable .sound); narrow = omega (arith, k .servable .last); all = k .room }
 
-  ours : OurSheet (netOf s) (queryOf a) (sheetIn cells (width (queryOf a)) (a .earliest .0) (size .places))
+  ours : OurSheet (theoryIn s) (queryOf a) (sheetIn cells (width (queryOf a)) (a .earliest .0) (size .places))
   ours =
-      let n = places-are s size (k .servable .sound) in
-      subst (λ (p : ℕ). OurSheet (netOf s) (queryOf a) (sheetIn cells (width (queryOf a)) (a .earliest .0) p)) n
-      (our-sheet (netOf s) (queryOf a) (k .servable .asked) cells
+      let n = sym (places-are s size (k .servable .sound)) in
+      subst (λ (p : ℕ). OurSheet (theoryIn s) (queryOf a) (sheetIn cells (width (queryOf a)) (a .earliest .0) p)) n
+      (our-sheet (theoryIn s) (queryOf a) (k .servable .asked) cells
       (subst (λ (p : ℕ). p * width (queryOf a) ≤ length cells) (sym n) (k .room)) (k .table))
 
-  right-none : cellAt (queryOf a) cells (a .end) (a .latest .0) ≡ noPlan → Right (netOf s) (queryOf a) PlanAnswer.NoPlan
-  right-none e = none (none-feasible (netOf s) (queryOf a) (k .servable .asked) (cellAt (queryOf a) cells) (k .table) e)
+  right-none : cellAt (queryOf a) cells (a .end) (a .latest .0) ≡ noPlan → Right (theoryIn s) (queryOf a) PlanAnswer.NoPlan
+  right-none e = none (none-feasible (theoryIn s) (queryOf a) (k .servable .asked) (cellAt (queryOf a) cells) (k .table) e)
 
-  right-some : cellAt (queryOf a) cells (a .end) (a .latest .0) ≢ noPlan → Right (netOf s) (queryOf a) PlanAnswer.Done
+  right-some : cellAt (queryOf a) cells (a .end) (a .latest .0) ≢ noPlan → Right (theoryIn s) (queryOf a) PlanAnswer.Done
   unfolding Attained
   right-some n =
-      let w = table-least (netOf s) (queryOf a) (k .servable .asked) (cellAt (queryOf a) cells) (k .table) (a .end) (a .latest .0)
-      (at-end (netOf s) (queryOf a) (k .servable .asked)) .attained n in
+      let w = table-least (theoryIn s) (queryOf a) (k .servable .asked) (cellAt (queryOf a) cells) (k .table) (a .end) (a .latest .0)
+      (at-end (theoryIn s) (queryOf a) (k .servable .asked)) .attained n in
       some (w .0) (w .1)
 
   module _ (out : List ℕ) (n : ℕ) (w : Weighed cells (width (queryOf a)) (size .places) n) where
     -- 9
-    pub too-long : length out < n → Answered (netOf s) (queryOf a) out out (PlanAnswer.Refused Room)
+    pub too-long : length out < n → Answered (theoryIn s) (queryOf a) out out (PlanAnswer.Refused Room)
     too-long h = at (ℕ-discrete (cellAt (queryOf a) cells (a .end) (a .latest .0)) noPlan)
       where
-        at : Dec (cellAt (queryOf a) cells (a .end) (a .latest .0) ≡ noPlan) → Answered (netOf s) (queryOf a) out out (PlanAnswer.Refused Room)
-        at (yes e) = no-room (netOf s) (queryOf a) out _ ours PlanAnswer.NoPlan (right-none e) (omega (arith, w .weight (a .earliest .0)))
-        at (no e) = no-room (netOf s) (queryOf a) out _ ours PlanAnswer.Done (right-some e) (omega (arith, w .weight (a .earliest .0)))
+        at : Dec (cellAt (queryOf a) cells (a .end) (a .latest .0) ≡ noPlan) → Answered (theoryIn s) (queryOf a) out out (PlanAnswer.Refused Room)
+        at (yes e) = no-room (theoryIn s) (queryOf a) out _ ours PlanAnswer.NoPlan (right-none e) (omega (arith, w .weight (a .earliest .0)))
+        at (no e) = no-room (theoryIn s) (queryOf a) out _ ours PlanAnswer.Done (right-some e) (omega (arith, w .weight (a .earliest .0)))
 
     module _ (h : n ≤ length out) (bytes : List ℕ)
         (is : FileOf (sheetIn cells (width (queryOf a)) (a .earliest .0) (size .places)) bytes) where
       -- 10
-      pub no-plan : cellAt (queryOf a) cells (a .end) (a .latest .0) ≡ noPlan → Answered (netOf s) (queryOf a) out (bytes ++ drop n out) (PlanAnswer.NoPlan n)
-      no-plan e = room (netOf s) (queryOf a) out bytes _ ours PlanAnswer.NoPlan (right-none e) is n (w .weight (a .earliest .0)) h
+      pub no-plan : cellAt (queryOf a) cells (a .end) (a .latest .0) ≡ noPlan → Answered (theoryIn s) (queryOf a) out (bytes ++ drop n out) (PlanAnswer.NoPlan n)
+      no-plan e = room (theoryIn s) (queryOf a) out bytes _ ours PlanAnswer.NoPlan (right-none e) is n (w .weight (a .earliest .0)) h
 
       -- 0
-      pub done : cellAt (queryOf a) cells (a .end) (a .latest .0) ≢ noPlan → Answered (netOf s) (queryOf a) out (bytes ++ drop n out) (PlanAnswer.Done n)
-      done e = room (netOf s) (queryOf a) out bytes _ ours PlanAnswer.Done (right-some e) is n (w .weight (a .earliest .0)) h
+      pub done : cellAt (queryOf a) cells (a .end) (a .latest .0) ≢ noPlan → Answered (theoryIn s) (queryOf a) out (bytes ++ drop n out) (PlanAnswer.Done n)
+      done e = room (theoryIn s) (queryOf a) out bytes _ ours PlanAnswer.Done (right-some e) is n (w .weight (a .earliest .0)) h

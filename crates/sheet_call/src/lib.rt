@@ -6,9 +6,9 @@ ghost use lib.ListN.{length};
 ghost use Rattle.bits.specs.Packed.{bitsOf};
 ghost use Rattle.plan_file.specs.PlanFile.{queryOf};
 ghost use Rattle.plan_file.specs.Puts.{Puts};
-ghost use Rattle.walk.specs.Walk.{netOf};
 ghost use Rattle.tabled.specs.Comes.{asking};
 ghost use Rattle.tabled.specs.Tabled.{Tabled};
+ghost use Rattle.chart.specs.Net.{theoryIn};
 ghost use Rattle.sheet_call.specs.Rows.{stepTo, stepsOf, sheetIn};
 ghost use Rattle.sheet_file.specs.Fields.{stepFields, stepsFields, placeFields, placesFields, sheetBytes, FileOf};
 ghost use Rattle.sheet_call.specs.Parts.{Counted, RoomAt, Table, Weighed};
@@ -134,7 +134,7 @@ fn write_sheet(cells: &[u32], w: usize, places: u32, earliest: Minute, file: &mu
 fn answer(size: Size, query: Query, cells: &[u32], out: &mut [u8]) -> PlanAnswer
     requires { ⌜ ((net : List ℕ) × Tabled net size query (now cells)) ⌝ }
     ensures { λ r. ⌜ ((net : List ℕ) → Tabled net size query (now (cells .entry))
-        → Answered (netOf net) (queryOf query) (now (out .entry)) (now (out .exit)) r) ⌝ }
+        → Answered (theoryIn net) (queryOf query) (now (out .entry)) (now (out .exit)) r) ⌝ }
 {
     let earliest = query.earliest;
     let latest = query.latest;

@@ -12,13 +12,14 @@ use Rattle.network.specs.declared.Size.{Size}
 use Rattle.network.specs.Network.{Network}
 use Rattle.rows.specs.Row.{at}
 use Rattle.rows.proofs.Wholes.{row-length}
+use Rattle.chart.specs.Net.{netIn, theory, theoryIn}
+use Rattle.chart.proofs.Net.{net-is, places-are, few-places, ranges}
 use Rattle.table.specs.declared.Ask.{Ask}
-use Rattle.table.specs.Ask.{Askable, columns, query, netIn, planned}
+use Rattle.table.specs.Ask.{Askable, columns, query}
 use Rattle.table.specs.Kept.{Kept, Never, Clean, Outset}
 use Rattle.table.specs.Filled.{asked, Fillable, Filled}
 use Rattle.table.proofs.Keeping.{row-fits}
 use Rattle.table.proofs.Clean.{clean-table, outset-kept, any-end}
-use Rattle.table.proofs.InFile.{in-file, net-is, ranges-kept, few-places}
 
 module _ (s : List ℕ) (size : Size) (start : ℕ) (earliest latest : Minute) (cells : List ℕ) (f : Fillable s size start (earliest .0) (latest .0) cells) where
   abbrev pub this : Ask
@@ -28,44 +29,44 @@ module _ (s : List ℕ) (size : Size) (start : ℕ) (earliest latest : Minute) (
   may-ask = record { home = f .home; window = f .window; clock = f .clock }
 
   fill-home : start < netIn s .places
-  fill-home = omega (arith, f .home, few-places s size (f .sound) .0)
+  fill-home = omega (arith, f .home, places-are s size (f .sound))
 
   fill-long : length cells ≡ netIn s .places * columns this
-  fill-long = f .long ∙ ap (λ (n : ℕ). n * columns this) (few-places s size (f .sound) .0)
+  fill-long = f .long ∙ ap (λ (n : ℕ). n * columns this) (places-are s size (f .sound))
 
   pub start-fits : (w : ℕ) → w ≡ columns this → start * w + w ≤ length cells
   start-fits w e = rw e (row-fits (netIn s .places) (columns this) start (length cells) fill-home fill-long)
 
   pub start-low : start < 64
-  start-low = omega (arith, f .home, few-places s size (f .sound) .1)
+  start-low = omega (arith, f .home, few-places s size (f .sound))
 
   pub fill-begins : (w : ℕ) (cells′ low low′ : List ℕ) → w ≡ columns this → length low ≡ 64 → Outset start w cells cells′ low low′
-      → Kept (planned (netIn s)) (query this) cells′ low′ Never
+      → Kept (theoryIn s) (query this) cells′ low′ Never
   fill-begins w cells′ low low′ wide long o =
       let c = rw wide at (o .cells-are) in
       let l = rw wide at (o .low-is) in
       rw (c, l)
-      (outset-kept (planned (netIn s)) (query this) (ranges-kept (netIn s) (in-file s size (f .sound) .sound)) fill-home cells low (length low) fill-long
-      (omega (arith, long, few-places s size (f .sound) .0, few-places s size (f .sound) .1)))
+      (outset-kept (theoryIn s) (query this) (ranges s size (f .sound)) fill-home cells low (length low) fill-long
+      (omega (arith, long, places-are s size (f .sound), few-places s size (f .sound))))
 
-  plan-asked : Plan.Askable (planned (netIn s)) (query this)
+  plan-asked : Plan.Askable (theoryIn s) (query this)
   plan-asked = record {
-    ranges = ranges-kept (netIn s) (in-file s size (f .sound) .sound);
+    ranges = ranges s size (f .sound);
     home = fill-home;
     goal = fill-home;
     window = f .window;
   }
 
-  pub fill-done : (cells′ low : List ℕ) → length cells′ ≡ length cells → Clean (planned (netIn s)) (query this) cells′ low
+  pub fill-done : (cells′ low : List ℕ) → length cells′ ≡ length cells → Clean (theoryIn s) (query this) cells′ low
       → Filled s start (earliest .0) (latest .0) cells cells′
   fill-done cells′ low long c = record {
     long = long;
     table = λ n last stands end.
         subst
-        (λ (m : Network). MinuteTable (planned m) (asked start end (earliest .0) (latest .0)) (cellAt (asked start end (earliest .0) (latest .0)) cells′))
+        (λ (m : Network). MinuteTable (theory m) (asked start end (earliest .0) (latest .0)) (cellAt (asked start end (earliest .0) (latest .0)) cells′))
         (net-is s n last stands)
-        (any-end (planned (netIn s)) (query this) start end (cellAt (query this) cells′)
-        (clean-table (planned (netIn s)) (query this) plan-asked cells′ low (c .kept) (c .clean)));
+        (any-end (theoryIn s) (query this) start end (cellAt (query this) cells′)
+        (clean-table (theoryIn s) (query this) plan-asked cells′ low (c .kept) (c .clean)));
   }
 
 -- ---- the outset, as the code makes it

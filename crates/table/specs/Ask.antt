@@ -1,25 +1,8 @@
--- What is asked of the table, and of which network.
+-- What is asked of the table.
 use Prim.Native.Nat.{ℕ, _-_, _+_, _≤_, _<_}
-use mathlib.Core.List.{List, []}
 use Rattle.plan.specs.Network as Plan
-use Rattle.plan.specs.Legs.{networkOf}
-use Rattle.network.specs.Reading.{Found, refused, found}
-use Rattle.network.specs.Network.{Network, ofFile}
 use Rattle.network.specs.declared.Size.{Size}
 use Rattle.table.specs.declared.Ask.{Ask}
-
--- the network that was found
-abbrev pub netOf : Found Network → Network
-netOf (refused why) = record { places = 0; legs = [] }
-netOf (found net end) = net
-
--- the network that a file stands for
-unfoldable pub netIn : List ℕ → Network
-netIn s = netOf (ofFile s)
-
--- the same as the plans see it
-abbrev pub planned : Network → Plan.Network
-planned net = networkOf (net .places) (net .legs)
 
 -- the query with this end: cells do not go by it
 abbrev pub queryTo : Ask → ℕ → Plan.Query

@@ -8,10 +8,11 @@ use Rattle.network.specs.declared.Size.{Size}
 use Rattle.network.specs.declared.NetworkFound.{NetworkFound}
 use Rattle.network.specs.Answers.{networkFound}
 use Rattle.chart.specs.Chart.{Chart}
+use Rattle.chart.specs.Net.{theoryIn}
 use lib.ListN.{length}
 use Rattle.rows.specs.Row.{at}
 use Rattle.table.specs.declared.Ask.{Ask}
-use Rattle.table.specs.Ask.{Askable, columns, netIn, planned}
+use Rattle.table.specs.Ask.{Askable, columns}
 
 -- of the legs below `bound`, `top` is one more than the highest that leaves p, or 0
 pub record Next (N : Network) (p bound top : ℕ) : Type 0 where
@@ -29,7 +30,7 @@ pub record Ready (net : List ℕ) (size : Size) (ask : Ask) (chart last before :
   pub sound : networkFound (ofFile net) ≡ NetworkFound.Sound size
   pub asked : Askable ask size
   pub charted : Chart net chart
-  pub chained : Chained (planned (netIn net)) (size .legs) last before
+  pub chained : Chained (theoryIn net) (size .legs) last before
 
 -- leg l is one of p's, and p's row has room
 pub record Leaving (net : List ℕ) (size : Size) (ask : Ask) (chart row : List ℕ) (p l : ℕ) : Type 0 where
@@ -37,5 +38,5 @@ pub record Leaving (net : List ℕ) (size : Size) (ask : Ask) (chart row : List 
   pub asked : Askable ask size
   pub charted : Chart net chart
   pub known : l < size .legs
-  pub leaves : planned (netIn net) .source l ≡ p
+  pub leaves : theoryIn net .source l ≡ p
   pub room : columns ask ≤ length row

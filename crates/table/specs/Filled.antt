@@ -5,12 +5,12 @@ use mathlib.Core.List.{List}
 use lib.ListN.{length}
 use Rattle.plan.specs.Network.{Query}
 use Rattle.plan.specs.Table.{MinuteTable, cellAt}
-use Rattle.plan.specs.Legs.{networkOf}
 use Rattle.network.specs.Reading.{found}
 use Rattle.network.specs.Network.{Network, ofFile}
 use Rattle.network.specs.Answers.{networkFound}
 use Rattle.network.specs.declared.NetworkFound.{NetworkFound}
 use Rattle.network.specs.declared.Size.{Size}
+use Rattle.chart.specs.Net.{theory}
 
 -- what is asked for: from where to where, not before when, and when at the latest
 abbrev pub asked : ℕ → ℕ → ℕ → ℕ → Query
@@ -28,4 +28,4 @@ pub record Fillable (net : List ℕ) (size : Size) (start earliest latest : ℕ)
 pub record Filled (net : List ℕ) (start earliest latest : ℕ) (old new : List ℕ) : Type 0 where
   pub long : length new ≡ length old
   pub table : (n : Network) (last : ℕ) → ofFile net ≡ found n last → (end : ℕ)
-      → MinuteTable (networkOf (n .places) (n .legs)) (asked start end earliest latest) (cellAt (asked start end earliest latest) new)
+      → MinuteTable (theory n) (asked start end earliest latest) (cellAt (asked start end earliest latest) new)

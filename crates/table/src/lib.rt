@@ -6,8 +6,9 @@ ghost use Rattle.network.specs.declared.NetworkFound.{NetworkFound};
 ghost use Rattle.network.specs.Network.{ofFile};
 ghost use Rattle.network.specs.Answers.{networkFound};
 ghost use Rattle.chart.specs.Chart.{Chart};
+ghost use Rattle.chart.specs.Net.{theoryIn};
 ghost use Rattle.rows.specs.Row.{at};
-ghost use Rattle.table.specs.Ask.{Askable, columns, query, netIn, planned};
+ghost use Rattle.table.specs.Ask.{Askable, columns, query};
 ghost use Rattle.table.specs.Ride.{Banded, bandStart, Rode, RodeOut};
 ghost use Rattle.table.specs.Chains.{Chained, Leaving, Ready};
 ghost use Rattle.table.specs.Kept.{Kept, Never, Visiting, Onward, Visited, Clean, FirstNew, NextNew, Outset};
@@ -160,8 +161,8 @@ fn ride_leg(
     cells: &mut [u32],
     low: &mut [usize],
 )
-    requires { ⌜ Leaving (now net) size ask (now chart) (now row) p l × Visiting (planned (netIn (now net))) (query ask) (now cells) (now low) (now row) p from (l + 1) ⌝ }
-    ensures { λ r. ⌜ Visiting (planned (netIn (now (net .entry)))) (query ask) (now (cells .exit)) (now (low .exit)) (now (row .entry)) p from l × Onward (now (cells .entry)) (now (cells .exit)) (now (low .entry)) (now (low .exit)) ⌝ }
+    requires { ⌜ Leaving (now net) size ask (now chart) (now row) p l × Visiting (theoryIn (now net)) (query ask) (now cells) (now low) (now row) p from (l + 1) ⌝ }
+    ensures { λ r. ⌜ Visiting (theoryIn (now (net .entry))) (query ask) (now (cells .exit)) (now (low .exit)) (now (row .entry)) p from l × Onward (now (cells .entry)) (now (cells .exit)) (now (low .entry)) (now (low .exit)) ⌝ }
 {
     let leg = chart::leg_at(net, size.places, chart[l]);
     let w = width(ask);
@@ -182,8 +183,8 @@ fn ride_legs(
     cells: &mut [u32],
     low: &mut [usize],
 )
-    requires { ⌜ Ready (now net) size ask (now chart) (now last) (now before) × (p < size .places) × (columns ask ≤ length (now row)) × Visiting (planned (netIn (now net))) (query ask) (now cells) (now low) (now row) p from (size .legs) ⌝ }
-    ensures { λ r. ⌜ Visited (planned (netIn (now (net .entry)))) (query ask) (now (cells .entry)) (now (cells .exit)) (now (low .entry)) (now (low .exit)) ⌝ }
+    requires { ⌜ Ready (now net) size ask (now chart) (now last) (now before) × (p < size .places) × (columns ask ≤ length (now row)) × Visiting (theoryIn (now net)) (query ask) (now cells) (now low) (now row) p from (size .legs) ⌝ }
+    ensures { λ r. ⌜ Visited (theoryIn (now (net .entry))) (query ask) (now (cells .entry)) (now (cells .exit)) (now (low .entry)) (now (low .exit)) ⌝ }
 {
     let mut l = last[p];
     while 0 < l {
@@ -205,8 +206,8 @@ fn visit(
     cells: &mut [u32],
     low: &mut [usize],
 )
-    requires { ⌜ Ready (now net) size ask (now chart) (now last) (now before) × (p < size .places) × (columns ask ≤ length (now row)) × (at (now low) p < columns ask) × Kept (planned (netIn (now net))) (query ask) (now cells) (now low) Never ⌝ }
-    ensures { λ r. ⌜ Visited (planned (netIn (now (net .entry)))) (query ask) (now (cells .entry)) (now (cells .exit)) (set (now (low .entry)) p (columns ask)) (now (low .exit)) ⌝ }
+    requires { ⌜ Ready (now net) size ask (now chart) (now last) (now before) × (p < size .places) × (columns ask ≤ length (now row)) × (at (now low) p < columns ask) × Kept (theoryIn (now net)) (query ask) (now cells) (now low) Never ⌝ }
+    ensures { λ r. ⌜ Visited (theoryIn (now (net .entry))) (query ask) (now (cells .entry)) (now (cells .exit)) (set (now (low .entry)) p (columns ask)) (now (low .exit)) ⌝ }
 {
     let w = width(ask);
     let from = low[p];
@@ -270,8 +271,8 @@ fn sweep(
     cells: &mut [u32],
     low: &mut [usize],
 )
-    requires { ⌜ Ready (now net) size ask (now chart) (now last) (now before) × (columns ask ≤ length (now row)) × (length (now low) ≡ 64) × Kept (planned (netIn (now net))) (query ask) (now cells) (now low) Never ⌝ }
-    ensures { λ r. ⌜ Clean (planned (netIn (now (net .entry)))) (query ask) (now (cells .exit)) (now (low .exit)) ⌝ }
+    requires { ⌜ Ready (now net) size ask (now chart) (now last) (now before) × (columns ask ≤ length (now row)) × (length (now low) ≡ 64) × Kept (theoryIn (now net)) (query ask) (now cells) (now low) Never ⌝ }
+    ensures { λ r. ⌜ Clean (theoryIn (now (net .entry))) (query ask) (now (cells .exit)) (now (low .exit)) ⌝ }
 {
     let places = size.places as usize;
     let w = width(ask);
@@ -286,7 +287,7 @@ fn sweep(
 // any other number is one more than the leg's.
 fn chain(net: &[u8], size: Size, chart: &[u32; 512], last: &mut [usize], before: &mut [usize])
     requires { ⌜ (networkFound (ofFile (now net)) ≡ NetworkFound.Sound size) × Chart (now net) (now chart) × (now last ≡ replicate 64 0) × (length (now before) ≡ 512) ⌝ }
-    ensures { λ r. ⌜ Chained (planned (netIn (now (net .entry)))) (size .legs) (now (last .exit)) (now (before .exit)) ⌝ }
+    ensures { λ r. ⌜ Chained (theoryIn (now (net .entry))) (size .legs) (now (last .exit)) (now (before .exit)) ⌝ }
 {
     let legs = size.legs;
     let mut l = 0;

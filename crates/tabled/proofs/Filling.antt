@@ -1,7 +1,7 @@
 -- What filling comes to: a refusal that leaves the table as it was, or a part of it filled and put back into the whole.
 use Prim.Native.Nat.{ℕ, _*_, _≤_}
 use native.Mathlib.Omega.{arith}
-use mathlib.Core.Path.{_≡_, refl, sym, ap, _∙_, subst}
+use mathlib.Core.Path.{_≡_, refl, ap, _∙_}
 use mathlib.Core.List.{List, _++_}
 use lib.ListN.{length, take, drop}
 use lib.Seq.{length-take-le}
@@ -10,14 +10,12 @@ use Rattle.network.specs.declared.NetworkFound.{NetworkFound}
 use Rattle.network.specs.declared.Size.{Size}
 use Rattle.network.specs.Network.{ofFile}
 use Rattle.network.specs.Answers.{networkFound}
-use Rattle.network.proofs.Files.{sound-file}
-use Rattle.plan.specs.Network.{Network}
 use Rattle.plan.specs.Table.{width, cellAt, MinuteTable}
 use Rattle.table.specs.Filled.{Fillable, Filled as FilledCells}
 use Rattle.plan_file.specs.declared.Query.{Query as Asked}
 use Rattle.plan_file.specs.PlanFile.{queryOf}
-use Rattle.walk.specs.Walk.{netOf}
-use Rattle.walk.proofs.Nets.{net-is, places-are}
+use Rattle.chart.specs.Net.{netIn, theoryIn}
+use Rattle.chart.proofs.Net.{in-file, places-are}
 use Rattle.tabled.specs.declared.Judgement.{Judgement}
 use Rattle.tabled.specs.declared.Judgement.the-variants.{Serve, Refuse}
 use Rattle.tabled.specs.Judge.{judgement, with-network, judged}
@@ -33,8 +31,8 @@ module _ (net : List ℕ) (a : Asked) (table : List ℕ) where
 
   module _ (size : Size) (ok : networkFound (ofFile net) ≡ NetworkFound.Sound size) where
     by-judgement : (j : Judgement) → judgement (size .places) (queryOf a) (length table) ≡ j
-        → judged (ofFile net) (queryOf a) (length table) ≡ with-network j (netOf net)
-    by-judgement j e = judged-is (ofFile net) (queryOf a) (length table) size ok ∙ ap (λ (j : Judgement). with-network j (netOf net)) e
+        → judged (ofFile net) (queryOf a) (length table) ≡ with-network j (theoryIn net)
+    by-judgement j e = judged-is net (queryOf a) (length table) size ok ∙ ap (λ (j : Judgement). with-network j (theoryIn net)) e
 
     -- 6 to 8
     pub query-refused : (why : Refusal) → judgement (size .places) (queryOf a) (length table) ≡ Refuse why → Unfilled net a table table why
@@ -59,15 +57,13 @@ module _ (net : List ℕ) (a : Asked) (table : List ℕ) where
           }
 
       module _ (cells : List ℕ) (f : FilledCells net (a .start) (a .earliest .0) (a .latest .0) (take n table) cells) where
-        minutes : MinuteTable (netOf net) (queryOf a) (cellAt (queryOf a) cells)
+        minutes : MinuteTable (theoryIn net) (queryOf a) (cellAt (queryOf a) cells)
         minutes =
-            let file = sound-file net size ok in
-            subst (λ (N : Network). MinuteTable N (queryOf a) (cellAt (queryOf a) cells)) (sym (net-is net size ok file))
-            (f .table (file .net) (file .end) (file .stands) (a .end))
+            let file = in-file net size ok in f .table (netIn net) (file .end) (file .stands) (a .end)
 
-        whole : Filled (netOf net) (queryOf a) table (cells ++ drop n table)
+        whole : Filled (theoryIn net) (queryOf a) table (cells ++ drop n table)
         whole =
-            filled-whole (netOf net) (queryOf a) cells table n (is ∙ ap (λ (k : ℕ). k * width (queryOf a)) (sym (places-are net size ok))) fits
+            filled-whole (theoryIn net) (queryOf a) cells table n (is ∙ ap (λ (k : ℕ). k * width (queryOf a)) (places-are net size ok)) fits
             (f .long ∙ length-take-le n table fits) minutes
 
         pub filled-for : FilledFor net a table (cells ++ drop n table) size

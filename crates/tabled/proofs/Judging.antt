@@ -2,7 +2,7 @@
 use Prim.Native.Nat.{ℕ, _*_, _≤_, _<_}
 use native.Mathlib.Omega.{arith}
 use borrow.Author.Tests.{leb-true, ltb-true}
-use mathlib.Core.Path.{_≡_, refl, ap, _∙_}
+use mathlib.Core.Path.{_≡_, refl, sym, ap, _∙_}
 use mathlib.Core.Logic.{_⊎_, inl, inr}
 use mathlib.Core.Bool.{Bool, true, false}
 use mathlib.Core.List.{List}
@@ -16,8 +16,8 @@ use Rattle.network.specs.Network.{Network as FileNetwork, ofFile}
 use Rattle.network.specs.Answers.{sizeOf, networkFound}
 use Rattle.plan.specs.Network.{Query, Askable}
 use Rattle.plan.specs.Table.{width}
-use Rattle.walk.specs.Walk.{theNet, netOf}
-use Rattle.walk.proofs.Nets.{places-are, ranges}
+use Rattle.chart.specs.Net.{theoryIn}
+use Rattle.chart.proofs.Net.{in-file, places-are, ranges}
 use Rattle.tabled.specs.declared.Judgement.{Judgement}
 use Rattle.tabled.specs.declared.Judgement.the-variants.{Serve, Refuse}
 use Rattle.tabled.specs.Judge.{judgement, refuse, serve, with-network, judged}
@@ -58,16 +58,15 @@ judged-refused (refused w) q n why e = let same : w ≡ why = cc in ap refuse sa
 judged-refused (found net end) q n why e = let z : _≡_ {A = ℕ} 0 1 = cc in absurd (omega arith)
 
 -- one that was found
-pub judged-is : (x : Found FileNetwork) (q : Query) (n : ℕ) (size : Size) → networkFound x ≡ NetworkFound.Sound size
-    → judged x q n ≡ with-network (judgement (size .places) q n) (theNet x)
-judged-is (refused w) q n size e = let z : _≡_ {A = ℕ} 0 1 = cc in absurd (omega arith)
-judged-is (found net end) q n size e =
-    let is : sizeOf net ≡ size = cc in
-    ap (λ (z : Size). with-network (judgement (z .places) q n) (theNet (found net end))) is
+pub judged-is : (s : List ℕ) (q : Query) (n : ℕ) (size : Size) → networkFound (ofFile s) ≡ NetworkFound.Sound size
+    → judged (ofFile s) q n ≡ with-network (judgement (size .places) q n) (theoryIn s)
+judged-is s q n size ok =
+    ap (λ (x : Found FileNetwork). judged x q n) (in-file s size ok .stands)
+    ∙ ap (λ (places : ℕ). with-network (judgement places q n) (theoryIn s)) (sym (places-are s size ok))
 
 -- a query that passed can be asked
 pub askable : (s : List ℕ) (size : Size) → networkFound (ofFile s) ≡ NetworkFound.Sound size → (q : Query) (n : ℕ) → Passed (size .places) q n
-    → Askable (netOf s) q
+    → Askable (theoryIn s) q
 askable s size ok q n p =
     record {
       ranges = ranges s size ok;
@@ -78,19 +77,19 @@ askable s size ok q n p =
 
 -- EITHER the call refuses OR it serves the file's network, of which the query can be asked
 pub comes-to : (s : List ℕ) (q : Query) (n : ℕ)
-    → ((why : Refusal) × (judged (ofFile s) q n ≡ refuse why)) ⊎ ((judged (ofFile s) q n ≡ serve (netOf s)) × Askable (netOf s) q)
+    → ((why : Refusal) × (judged (ofFile s) q n ≡ refuse why)) ⊎ ((judged (ofFile s) q n ≡ serve (theoryIn s)) × Askable (theoryIn s) q)
 comes-to s q n = by (ofFile s) refl
   where
     judge-by : (size : Size) → networkFound (ofFile s) ≡ NetworkFound.Sound size → (j : Judgement) → judgement (size .places) q n ≡ j
-        → ((why : Refusal) × (judged (ofFile s) q n ≡ refuse why)) ⊎ ((judged (ofFile s) q n ≡ serve (netOf s)) × Askable (netOf s) q)
+        → ((why : Refusal) × (judged (ofFile s) q n ≡ refuse why)) ⊎ ((judged (ofFile s) q n ≡ serve (theoryIn s)) × Askable (theoryIn s) q)
     judge-by size ok Serve e =
         inr (
-          judged-is (ofFile s) q n size ok ∙ ap (λ (j : Judgement). with-network j (netOf s)) e,
+          judged-is s q n size ok ∙ ap (λ (j : Judgement). with-network j (theoryIn s)) e,
           askable s size ok q n (passed (size .places) q n e),
         )
-    judge-by size ok (Refuse why) e = inl (why, judged-is (ofFile s) q n size ok ∙ ap (λ (j : Judgement). with-network j (netOf s)) e)
+    judge-by size ok (Refuse why) e = inl (why, judged-is s q n size ok ∙ ap (λ (j : Judgement). with-network j (theoryIn s)) e)
 
     by : (x : Found FileNetwork) → ofFile s ≡ x
-        → ((why : Refusal) × (judged (ofFile s) q n ≡ refuse why)) ⊎ ((judged (ofFile s) q n ≡ serve (netOf s)) × Askable (netOf s) q)
+        → ((why : Refusal) × (judged (ofFile s) q n ≡ refuse why)) ⊎ ((judged (ofFile s) q n ≡ serve (theoryIn s)) × Askable (theoryIn s) q)
     by (refused w) e = inl (w, judged-refused (ofFile s) q n w (ap networkFound e))
     by (found net end) e = judge-by (sizeOf net) (ap networkFound e) (judgement (net .places) q n) refl

@@ -14,7 +14,7 @@ use Rattle.network.specs.Network.{ofFile}
 use Rattle.plan.specs.Network.{Minute, Network, Query, Askable, Within}
 use Rattle.plan.specs.Table.{width}
 use Rattle.plan.proofs.Cells.{cell-once}
-use Rattle.walk.specs.Walk.{netOf}
+use Rattle.chart.specs.Net.{theoryIn}
 use Rattle.tabled.specs.Judge.{Judged, refuse, serve, judged}
 use Rattle.tabled.specs.Comes.{Filled, Comes}
 use Rattle.tabled.proofs.Judging.{comes-to}
@@ -54,9 +54,9 @@ comes-once Answered once net q table out a b t u x y h k =
     let f = subst (λ (j : Judged). Comes Answered j q table t out x a) (r .1) h in
     let g = subst (λ (j : Judged). Comes Answered j q table u out y b) (r .1) k in
     record { answers = f .answer-is ∙ sym (g .answer-is); tables = f .table-is ∙ sym (g .table-is); outputs = f .output-is ∙ sym (g .output-is) })
-    (λ (r : (judged (ofFile net) q (length table) ≡ serve (netOf net)) × Askable (netOf net) q).
+    (λ (r : (judged (ofFile net) q (length table) ≡ serve (theoryIn net)) × Askable (theoryIn net) q).
     let f = subst (λ (j : Judged). Comes Answered j q table t out x a) (r .0) h in
     let g = subst (λ (j : Judged). Comes Answered j q table u out y b) (r .0) k in
-    let one = once (netOf net) q out x y a b (f .answered) (g .answered) in
-    record { answers = one .0; tables = table-once (netOf net) q (r .1) table t u (f .filled) (g .filled); outputs = one .1 })
+    let one = once (theoryIn net) q out x y a b (f .answered) (g .answered) in
+    record { answers = one .0; tables = table-once (theoryIn net) q (r .1) table t u (f .filled) (g .filled); outputs = one .1 })
     (comes-to net q (length table))

@@ -8,7 +8,7 @@ use Rattle.network.specs.Reading.{Found, refused, found, pick}
 use Rattle.network.specs.Network.{Network as FileNetwork}
 use Rattle.plan.specs.Network.{Network, Query}
 use Rattle.plan.specs.Table.{width}
-use Rattle.plan.specs.Legs.{networkOf}
+use Rattle.chart.specs.Net.{theory}
 use Rattle.tabled.specs.declared.Judgement.{Judgement}
 use Rattle.tabled.specs.declared.Judgement.the-variants.{Serve, Refuse}
 
@@ -40,4 +40,4 @@ with-network (Refuse why) N = refuse why
 -- the network first, then 6, 7 and 8
 abbrev pub judged : Found FileNetwork → Query → ℕ → Judged
 judged (refused why) q cells = refuse why
-judged (found n at) q cells = with-network (judgement (n .places) q cells) (networkOf (n .places) (n .legs))
+judged (found n at) q cells = with-network (judgement (n .places) q cells) (theory n)

@@ -1,4 +1,4 @@
--- The network that a sound file stands for: its size, its legs by their numbers, and its ranges.
+-- The legs of a sound file by their numbers, and the cells that a walk reads.
 use Prim.Native.Nat.{ℕ, zero, suc, _+_, _*_, _≤_, _<_}
 use native.Mathlib.Omega.{arith}
 use native.Mathlib.Nat.{mul-le-mul-right, add-mul}
@@ -15,20 +15,20 @@ use Rattle.network.specs.declared.Head.{Head}
 use Rattle.network.specs.Reading.{found}
 use Rattle.network.specs.declared.NetworkFound.{NetworkFound}
 use Rattle.network.specs.declared.Size.{Size}
-use Rattle.network.specs.Network.{Network as FileNetwork, edition1, band, bands, bare, withBand, head, leg, ofFile}
+use Rattle.network.specs.Network.{edition1, band, bands, bare, withBand, head, leg, ofFile}
 use Rattle.network.specs.Answers.{legFound, networkFound}
 use Rattle.network.proofs.Inversion.{inner-step, head-inv}
-use Rattle.network.proofs.Sound.{SoundLeg, SoundNetwork}
-use Rattle.network.proofs.Files.{SoundFile, sound-file}
-use Rattle.plan.specs.Network.{Minute, Network, InRange, Query, Within}
+use Rattle.network.proofs.Sound.{SoundLeg}
+use Rattle.plan.specs.Network.{Minute, Network, Query, Within}
 use Rattle.plan.specs.Table.{width}
-use Rattle.plan.specs.Legs.{noLeg, networkOf}
-use Rattle.plan.proofs.Legs.{legs-in-range}
+use Rattle.plan.specs.Legs.{noLeg}
 use Rattle.plan.proofs.Walk.{Fits}
 use Rattle.chart.specs.Chart.{Chart}
+use Rattle.chart.specs.Net.{netIn, theoryIn}
 use Rattle.chart.proofs.Charting.{charted-leg}
+use Rattle.chart.proofs.Net.{places-are, few-places, charted, leg-known, leg-sound, leg-is}
 use Rattle.walk.specs.Cells.{InTable}
-use Rattle.walk.specs.Walk.{theNet, netOf, LegFits, LegStands, ReadsFrom}
+use Rattle.walk.specs.Walk.{LegFits, LegStands, ReadsFrom}
 
 -- leg k of the network is this one
 pub record HasLeg (N : Network) (k : ℕ) (l : Leg) : Type 0 where
@@ -87,57 +87,30 @@ leg-target s places at l end e =
       omega (arith, leb-true (at + 6 + 6) (8 * length s) (r .to-there)),
     )
 
--- THE RANGES that a sound network keeps
-pub sound-ranges : (net : FileNetwork) → SoundNetwork net → InRange (networkOf (net .places) (net .legs))
-sound-ranges net s =
-    legs-in-range (net .places) (net .legs) (s .few-places) λ l h.
-    let leg = s .each-leg l noLeg h in
-    record { source = leg .from-below; target = leg .to-below; tolls = leg .tolls-within }
-
 module _ (s : List ℕ) (size : Size) (ok : networkFound (ofFile s) ≡ NetworkFound.Sound size) where
-  pub net-is : (f : SoundFile s size) → netOf s ≡ networkOf (f .net .places) (f .net .legs)
-  net-is f = ap theNet (f .stands)
-
-  pub places-are : netOf s .places ≡ size .places
-  places-are = let f = sound-file s size ok in ap (λ (n : Network). n .places) (net-is f) ∙ ap (λ (z : Size). z .places) (sym (f .size-is))
-
-  pub legs-are : netOf s .legs ≡ size .legs
-  legs-are = let f = sound-file s size ok in ap (λ (n : Network). n .legs) (net-is f) ∙ ap (λ (z : Size). z .legs) (sym (f .size-is))
-
-  pub few-places : size .places ≤ 64
-  few-places = let f = sound-file s size ok in omega (arith, ap (λ (z : Size). z .places) (f .size-is), f .sound .few-places)
-
-  pub few-legs : size .legs ≤ 512
-  few-legs = let f = sound-file s size ok in omega (arith, ap (λ (z : Size). z .legs) (f .size-is), f .sound .few-legs)
-
-  pub ranges : InRange (netOf s)
-  ranges = let f = sound-file s size ok in subst InRange (sym (net-is f)) (sound-ranges (f .net) (f .sound))
-
   -- a cell of the window is in the table
-  pub in-table : (q : Query) (cells : List ℕ) → size .places * width q ≤ length cells → q .latest ≤ 2879 → (p : ℕ) (t : Minute) → Within (netOf s) q p t
+  pub in-table : (q : Query) (cells : List ℕ) → size .places * width q ≤ length cells → q .latest ≤ 2879 → (p : ℕ) (t : Minute) → Within (theoryIn s) q p t
       → InTable cells q p t
   in-table q cells room last p t win =
-      let below : p + 1 ≤ size .places = omega (arith, win .place, places-are) in
+      let below : p + 1 ≤ size .places = omega (arith, win .place, places-are s size ok) in
       record {
         early = win .early;
         late = win .late;
         last = last;
-        place = omega (arith, few-places);
+        place = omega (arith, few-places s size ok);
         room = row-room (width q) (length cells) p (size .places) below room;
       }
 
   -- the leg that the chart gives stands there
   pub leg-stands : (chart : List ℕ) → Chart s chart → (k : ℕ) → k < size .legs → LegStands s (size .places) (getD chart k 0)
-  leg-stands chart charted k below =
-      let f = sound-file s size ok in
-      let places : f .net .places ≡ size .places = ap (λ (z : Size). z .places) (sym (f .size-is)) in
-      let c = charted (f .net) (f .end) (f .stands) in
-      let within : k < length (f .net .legs) = omega (arith, ap (λ (z : Size). z .legs) (f .size-is)) in
+  leg-stands chart by k below =
+      let c = charted s size ok chart by in
+      let within = leg-known s size ok k below in
       let e = c .stands k within in
-      let t = leg-target s (f .net .places) (getD chart k 0) (getD (f .net .legs) k noLeg) (e .0) (e .1) in
-      let is = charted-leg s (f .net) chart c k within in
-      let sound = f .sound .each-leg k noLeg within in
-      subst (λ (n : ℕ). LegStands s n (getD chart k 0)) places
+      let t = leg-target s (netIn s .places) (getD chart k 0) (getD (netIn s .legs) k noLeg) (e .0) (e .1) in
+      let is = charted-leg s (netIn s) chart c k within in
+      let sound = leg-sound s size ok k below in
+      subst (λ (n : ℕ). LegStands s n (getD chart k 0)) (sym (places-are s size ok))
       (record {
         near = c .near k;
         there = t .1;
@@ -147,29 +120,24 @@ module _ (s : List ℕ) (size : Size) (ok : networkFound (ofFile s) ≡ NetworkF
       })
 
   -- THE LEG that the chart gives is the network's
-  module _ (chart : List ℕ) (charted : Chart s chart) (k : ℕ) (below : k < size .legs) (l : Leg)
+  module _ (chart : List ℕ) (by : Chart s chart) (k : ℕ) (below : k < size .legs) (l : Leg)
       (is : l ≡ legFound (leg edition1 (size .places) (fileOf s) (getD chart k 0)) .leg) where
-    pub leg-is : (f : SoundFile s size) → l ≡ getD (f .net .legs) k noLeg
-    leg-is f = is ∙ ap (λ (n : ℕ). legFound (leg edition1 n (fileOf s) (getD chart k 0)) .leg) (ap (λ (z : Size). z .places) (f .size-is))
-        ∙ charted-leg s (f .net) chart (charted (f .net) (f .end) (f .stands)) k (omega (arith, ap (λ (z : Size). z .legs) (f .size-is)))
+    this-leg : l ≡ getD (netIn s .legs) k noLeg
+    this-leg = is ∙ leg-is s size ok k below chart by
 
-    pub has-leg : HasLeg (netOf s) k l
+    pub has-leg : HasLeg (theoryIn s) k l
     has-leg =
-        let f = sound-file s size ok in
-        subst (λ (x : Leg). HasLeg (netOf s) k x) (sym (leg-is f))
-        (subst (λ (N : Network). HasLeg N k (getD (f .net .legs) k noLeg)) (sym (net-is f))
+        subst (λ (x : Leg). HasLeg (theoryIn s) k x) (sym this-leg)
         (record {
-          known = omega (arith, ap (λ (z : Size). z .legs) (f .size-is));
+          known = leg-known s size ok k below;
           source = refl;
           target = refl;
           time = refl;
           goes = λ d. tt;
           toll = λ d. refl;
-        }))
+        })
 
     pub sound-leg : SoundLeg (size .places) l
     sound-leg =
-        let f = sound-file s size ok in
-        subst (λ (x : Leg). SoundLeg (size .places) x) (sym (leg-is f))
-        (subst (λ (n : ℕ). SoundLeg n (getD (f .net .legs) k noLeg)) (sym (ap (λ (z : Size). z .places) (f .size-is)))
-        (f .sound .each-leg k noLeg (omega (arith, ap (λ (z : Size). z .legs) (f .size-is)))))
+        subst (λ (n : ℕ). SoundLeg n l) (sym (places-are s size ok))
+        (subst (λ (x : Leg). SoundLeg (netIn s .places) x) (sym this-leg) (leg-sound s size ok k below))

@@ -3,46 +3,36 @@ use Prim.Native.Nat.{ℕ, _+_, _-_, _*_, _%_, _≤_, _<_}
 use mathlib.Core.Path.{_≡_}
 use mathlib.Core.Logic.{_≢_}
 use mathlib.Core.Bool.{Bool, true, false}
-use mathlib.Core.List.{List, []}
+use mathlib.Core.List.{List}
 use lib.ListN.{length}
 use Rattle.bits.specs.Field.{field}
 use Rattle.leg.specs.declared.Leg.{Leg}
 use Rattle.leg.specs.Toll.{tollAt}
 use Rattle.network.specs.declared.NetworkFound.{NetworkFound}
 use Rattle.network.specs.declared.Size.{Size}
-use Rattle.network.specs.Reading.{Found, refused, found}
 use Rattle.source.specs.Source.{fileOf}
-use Rattle.network.specs.Network.{Network as FileNetwork, edition1, leg, ofFile}
+use Rattle.network.specs.Network.{edition1, leg, ofFile}
 use Rattle.network.specs.Answers.{legFound, networkFound}
 use Rattle.plan.specs.Network.{Minute, Network, Query, Askable, Within}
 use Rattle.plan.specs.Plan.{Ride, cost}
 use Rattle.plan.specs.Tie.{Named}
 use Rattle.plan.specs.Table.{noPlan, width, cellAt, MinuteTable}
-use Rattle.plan.specs.Legs.{networkOf}
 use Rattle.plan.proofs.Walk.{Fits, Best, FirstAt}
 use Rattle.chart.specs.Chart.{Chart}
+use Rattle.chart.specs.Net.{theoryIn}
 use Rattle.plan_file.specs.declared.Query.{Query as Asked}
 use Rattle.plan_file.specs.Puts.{Puts}
 use Rattle.plan_file.specs.PlanFile.{queryOf, ridesFields, planFile, FileOf}
 use Rattle.walk.specs.declared.Hop.{Hop}
 use Rattle.walk.specs.Cells.{FirstLike}
 
--- the network that a file's bytes stand for, as the theory has it
-abbrev pub theNet : Found FileNetwork → Network
-theNet (refused why) = networkOf 0 []
-theNet (found n at) = networkOf (n .places) (n .legs)
-
--- the theory's network of these bytes
-abbrev pub netOf : List ℕ → Network
-netOf s = theNet (ofFile s)
-
 -- a sound network file, its chart, a query that can be asked of it, and its minute table
 pub record Walkable (s chart cells : List ℕ) (size : Size) (a : Asked) : Type 0 where
   pub sound : networkFound (ofFile s) ≡ NetworkFound.Sound size
   pub charted : Chart s chart
-  pub asked : Askable (netOf s) (queryOf a)
+  pub asked : Askable (theoryIn s) (queryOf a)
   pub last : a .latest .0 ≤ 2879
-  pub table : MinuteTable (netOf s) (queryOf a) (cellAt (queryOf a) cells)
+  pub table : MinuteTable (theoryIn s) (queryOf a) (cellAt (queryOf a) cells)
   pub room : size .places * width (queryOf a) ≤ length cells
 
 -- a leg, left for at d, arrives at p at the minute a, and with the cell that it leaves from gives the cell there
@@ -77,7 +67,7 @@ Tells false q c l p a = (d : Minute) → LegFits q c l p a d → ⊥
 -- at a departure: a place and a minute at which there is a plan
 pub record Departing (s chart cells : List ℕ) (size : Size) (a : Asked) (p : ℕ) (t : Minute) : Type 0 where
   pub walkable : Walkable s chart cells size a
-  pub within : Within (netOf s) (queryOf a) p t
+  pub within : Within (theoryIn s) (queryOf a) p t
   pub plan : cellAt (queryOf a) cells p t ≢ noPlan
 
 -- at an arrival: the first minute, besides, at which the place has this cell

@@ -5,8 +5,9 @@ ghost use Prim.Native.Nat.{_+_, _*_, _/_, _%_, _≤_, _<_};
 ghost use lib.ListN.{length};
 ghost use Rattle.plan.specs.Table.{cellAt};
 ghost use Rattle.plan_file.specs.PlanFile.{InWidth, queryOf, planBytes, noneFile, FileOf};
+ghost use Rattle.chart.specs.Net.{theoryIn};
 ghost use Rattle.walk.specs.Cells.{InTable, FirstLike};
-ghost use Rattle.walk.specs.Walk.{netOf, Tells, legAt, LegStands, ReadsFrom, Departing, Arriving, Hops, RoomFor, Walked, Ending, NamedFile};
+ghost use Rattle.walk.specs.Walk.{Tells, legAt, LegStands, ReadsFrom, Departing, Arriving, Hops, RoomFor, Walked, Ending, NamedFile};
 use leg::Cents;
 use leg::Leg;
 use leg::Minute;
@@ -106,7 +107,7 @@ fn find_leg(
 ) -> Hop
     requires { ⌜ Arriving (now net) (now chart) (now cells) size query place (arrival .0)
         × (cellAt (queryOf query) (now cells) place (arrival .0) ≢ 0) ⌝ }
-    ensures { λ r. ⌜ Hops (netOf (now (net .entry))) (queryOf query) (cellAt (queryOf query) (now (cells .entry))) place (arrival .0) r ⌝ }
+    ensures { λ r. ⌜ Hops (theoryIn (now (net .entry))) (queryOf query) (cellAt (queryOf query) (now (cells .entry))) place (arrival .0) r ⌝ }
 {
     let legs = size.legs;
     let mut k = 0;
@@ -144,7 +145,7 @@ fn arrival_to_leg(
 )
     requires { ⌜ Arriving (now net) (now chart) (now cells) size query place (arrival .0)
         × RoomFor (now out) (cellAt (queryOf query) (now cells) place (arrival .0)) ⌝ }
-    ensures { λ r. ⌜ Walked (netOf (now (net .entry))) (queryOf query) (cellAt (queryOf query) (now (cells .entry))) place (arrival .0)
+    ensures { λ r. ⌜ Walked (theoryIn (now (net .entry))) (queryOf query) (cellAt (queryOf query) (now (cells .entry))) place (arrival .0)
         (now (out .entry)) (now (out .exit)) ⌝ }
 {
     let legs = cell(cells, query, place, arrival) % 64;
@@ -169,7 +170,7 @@ fn departure_to_standing(
 )
     requires { ⌜ Departing (now net) (now chart) (now cells) size query place (departure .0)
         × RoomFor (now out) (cellAt (queryOf query) (now cells) place (departure .0)) ⌝ }
-    ensures { λ r. ⌜ Walked (netOf (now (net .entry))) (queryOf query) (cellAt (queryOf query) (now (cells .entry))) place (departure .0)
+    ensures { λ r. ⌜ Walked (theoryIn (now (net .entry))) (queryOf query) (cellAt (queryOf query) (now (cells .entry))) place (departure .0)
         (now (out .entry)) (now (out .exit)) ⌝ }
 {
     let arrival = first(cells, query, place, departure, 1);
@@ -188,7 +189,7 @@ pub fn write_plan(
 )
     requires { ⌜ Ending (now net) (now chart) (now cells) size query (arrival .0)
         × (length (now file) ≡ planBytes (cellAt (queryOf query) (now cells) (query .end) (arrival .0) % 64)) ⌝ }
-    ensures { λ r. ⌜ NamedFile (netOf (now (net .entry))) (queryOf query) (now (file .exit)) ⌝ }
+    ensures { λ r. ⌜ NamedFile (theoryIn (now (net .entry))) (queryOf query) (now (file .exit)) ⌝ }
 {
     let end = query.end;
     let here = cell(cells, query, end, arrival);

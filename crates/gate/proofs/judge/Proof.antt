@@ -1,5 +1,5 @@
 use Rattle.network.specs.Network.{ofFile}
-use Rattle.gate.proofs.Net.{net-read}
+use Rattle.chart.proofs.Net.{in-file}
 use Rattle.gate.proofs.Answers.{network-none, network-on}
 use mathlib.Core.Path.{sym, _∙_}
 use borrow.Author.Needs.{needs}
@@ -30,8 +30,8 @@ returns c =
 returns-2 : tie.Need-returns-2
 returns-2 c =
     let a = c .before .before .before .before .before .before .before .before .before .args in
-    let n = net-read (a .net .now) _ (sym (c .before .before .before .before .network-from .ensures) ∙ c .before .before .found2 .given .1) in
-    network-on (a .net .now) (n .end) (c .judge-files .result) (a .plan .now) (a .sheet .now) (n .is) (c .judge-files .ensures)
+    let n = in-file (a .net .now) _ (sym (c .before .before .before .before .network-from .ensures) ∙ c .before .before .found2 .given .1) in
+    network-on (a .net .now) (n .end) (c .judge-files .result) (a .plan .now) (a .sheet .now) (n .stands) (c .judge-files .ensures)
 
 pub judge-spec : {M : Type 1} → statement M
 judge-spec =

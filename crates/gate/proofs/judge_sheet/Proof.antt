@@ -5,8 +5,9 @@ use Rattle.plan_file.specs.PlanFile.{queryOf}
 use Rattle.sheet_file.specs.InPlace.{placeAt}
 use Rattle.sheet_file.specs.Window.{window}
 use Rattle.rule_b.proofs.Turn.{is-true, is-false}
+use Rattle.chart.specs.Net.{netIn, theoryIn}
 use Rattle.gate.specs.Gate.{statedCost}
-use Rattle.gate.specs.Parts.{netAt, theoryAt, sheetAt, Placed, Ruled}
+use Rattle.gate.specs.Parts.{sheetAt, Placed, Ruled}
 use Rattle.gate.proofs.Net.{read}
 use Rattle.gate.proofs.Sheets.{ruled-obeys, obeys-ruled, tight-same}
 use Rattle.gate.proofs.Answers.{judged-at, FoundSheet, found-sheet, placed, sheet-none, sheet-broken, sheet-loose, sheet-done}
@@ -57,7 +58,7 @@ returns c =
     let a = c .before .before .before .before .before .before .before .before .args in
     let q = asked (c .before .before .before .before .before .before .before .before) in
     let r = c .before .before .sheet-from in
-    sheet-none (theoryAt (a .net .now)) q (statedCost (a .read .verdict) (a .read .cost .0)) (a .sheet .now) (netAt (a .net .now) .places) (sheetAt (a .net .now) (a .sheet .now) q) (r .result)
+    sheet-none (theoryIn (a .net .now)) q (statedCost (a .read .verdict) (a .read .cost .0)) (a .sheet .now) (netIn (a .net .now) .places) (sheetAt (a .net .now) (a .sheet .now) q) (r .result)
     (judged-at (a .net .now) (a .sheet .now) (a .size .places) q (r .result) (read (a .net .now) (a .size) (a .chart .now) (c .before .before .before .before .before .before .before .before .pre .0) .places) (r .ensures)) (not-true _ (c .if1 .taken))
 
 obeys-requires : tie.Need-obeys-requires
@@ -73,7 +74,7 @@ returns-2 c =
     let f = this-sheet (c .before .before .before .before) in
     let index = c .before .before .before .before .before .before .sheet-from .result .index in
     let no-rules = is-false (c .before .obeys .result) (Ruled (a .net .now) (a .sheet .now) index (a .size .legs) q) (not-true _ (c .if2 .taken)) (c .before .obeys .ensures) in
-    sheet-broken (theoryAt (a .net .now)) q (statedCost (a .read .verdict) (a .read .cost .0)) (sheetAt (a .net .now) (a .sheet .now) q) (f .sheet) (f .end) (f .is)
+    sheet-broken (theoryIn (a .net .now)) q (statedCost (a .read .verdict) (a .read .cost .0)) (sheetAt (a .net .now) (a .sheet .now) q) (f .sheet) (f .end) (f .is)
     (λ o. no-rules (obeys-ruled (a .net .now) (a .sheet .now) (a .size) (a .chart .now) index q (f .sheet) (c .before .before .before .before .before .before .before .before .before .before .before .before .pre .0) (c .before .before .before .before .before .before .before .before .before .before .before .before .pre .1) (f .indexed) (f .steps) o))
 
 cast-end : tie.Need-cast-end
@@ -103,7 +104,7 @@ returns-3 c =
     let o = ruled-obeys (a .net .now) (a .sheet .now) (a .size) (a .chart .now) index q (f .sheet) (c .before .before .before .before .before .before .before .before .before .before .before .before .before .before .before .before .pre .0) (c .before .before .before .before .before .before .before .before .before .before .before .before .before .before .before .before .pre .1) (f .indexed) (f .steps) rules in
     let same = tight-same (a .net .now) (a .sheet .now) (a .size) (a .chart .now) index q (f .sheet) (c .before .before .before .before .before .before .before .before .before .before .before .before .before .before .before .before .pre .0) (c .before .before .before .before .before .before .before .before .before .before .before .before .before .before .before .before .pre .1) (f .indexed) (f .steps) cost in
     let loose = is-false (c .before .tight .result) (value (placeAt (a .sheet .now) (getD index (q .end) 0)) (q .latest) ≡ cost) (not-true _ (c .if3 .taken)) (c .before .tight .ensures) in
-    sheet-loose (theoryAt (a .net .now)) q cost (sheetAt (a .net .now) (a .sheet .now) q) (f .sheet) (f .end) (f .is) o (λ t. loose (same .1 t))
+    sheet-loose (theoryIn (a .net .now)) q cost (sheetAt (a .net .now) (a .sheet .now) q) (f .sheet) (f .end) (f .is) o (λ t. loose (same .1 t))
 
 returns-4 : tie.Need-returns-4
 returns-4 c =
@@ -116,7 +117,7 @@ returns-4 c =
     let o = ruled-obeys (a .net .now) (a .sheet .now) (a .size) (a .chart .now) index q (f .sheet) (c .before .before .before .before .before .before .before .before .before .before .before .before .before .before .before .before .pre .0) (c .before .before .before .before .before .before .before .before .before .before .before .before .before .before .before .before .pre .1) (f .indexed) (f .steps) rules in
     let same = tight-same (a .net .now) (a .sheet .now) (a .size) (a .chart .now) index q (f .sheet) (c .before .before .before .before .before .before .before .before .before .before .before .before .before .before .before .before .pre .0) (c .before .before .before .before .before .before .before .before .before .before .before .before .before .before .before .before .pre .1) (f .indexed) (f .steps) cost in
     let tight = is-true (c .before .tight .result) (value (placeAt (a .sheet .now) (getD index (q .end) 0)) (q .latest) ≡ cost) (not-false _ (c .if3 .left)) (c .before .tight .ensures) in
-    sheet-done (theoryAt (a .net .now)) q cost (sheetAt (a .net .now) (a .sheet .now) q) (f .sheet) (f .end) (f .is) o (same .0 tight)
+    sheet-done (theoryIn (a .net .now)) q cost (sheetAt (a .net .now) (a .sheet .now) q) (f .sheet) (f .end) (f .is) o (same .0 tight)
 
 pub judge-sheet-spec : {M : Type 1} → statement M
 judge-sheet-spec =

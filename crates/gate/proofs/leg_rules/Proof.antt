@@ -9,7 +9,8 @@ use Rattle.sheet_file.specs.InPlace.{placeAt}
 use Rattle.rule_b.specs.Rule.{Is, RuleB}
 use Rattle.network.proofs.InFile.{Same}
 use Rattle.rule_b.proofs.InFile.{order-there, rule-there}
-use Rattle.gate.specs.Parts.{netAt, legOf}
+use Rattle.chart.specs.Net.{netIn}
+use Rattle.gate.specs.Parts.{legOf}
 use Rattle.gate.proofs.Net.{read, charted, leg-stands, leg-sound, in-order}
 use Rattle.gate.proofs.leg_rules.Statement.{statement}
 use Rattle.gate.proofs.leg_rules.Tie as tie
@@ -23,7 +24,7 @@ few-legs c =
 stands : (c : tie.Start) → Same (c .args .net .now) (getD (c .args .chart .now) (c .args .k) 0) (legOf (c .args .net .now) (c .args .k))
 stands c = let a = c .args in leg-stands (a .net .now) (a .size) (a .chart .now) (c .pre .0) (a .k) (c .pre .2)
 
-sound : (c : tie.Start) → SoundLeg (netAt (c .args .net .now) .places) (legOf (c .args .net .now) (c .args .k))
+sound : (c : tie.Start) → SoundLeg (netIn (c .args .net .now) .places) (legOf (c .args .net .now) (c .args .k))
 sound c = let a = c .args in leg-sound (a .net .now) (a .size) (a .chart .now) (c .pre .0) (a .k) (c .pre .2)
 
 near : (c : tie.Start) → getD (c .args .chart .now) (c .args .k) 0 ≤ 200000

@@ -2,7 +2,7 @@ use borrow.Author.Tests.{not-true, not-false}
 use Rattle.bits.specs.Field.{field}
 use Rattle.plan.specs.Network.{Query}
 use Rattle.plan_reader.specs.InPlace.{fileAt}
-use Rattle.gate.specs.Parts.{theoryAt}
+use Rattle.chart.specs.Net.{theoryIn}
 use Rattle.gate.proofs.Rides.{says-few, says-room, verdict-one, Riding, riding-none, riding-more, riding-not, runs-first, ends-there, ends-by, last-test}
 use borrow.Author.Needs.{needs}
 use Prim.Native.Nat.{_+_, _-_, _≤_}
@@ -13,7 +13,7 @@ use Rattle.gate.proofs.plan_holds.Tie as tie
 
 abbrev Inv-loop : tie.InvT-loop
 Inv-loop net size chart plan read query legs state₀ k₀ state k =
-    (k ≤ legs) × (legs ≡ field plan 77 12) × (legs ≤ 63) × Riding (theoryAt net) (fileAt plan .query) plan k state
+    (k ≤ legs) × (legs ≡ field plan 77 12) × (legs ≤ 63) × Riding (theoryIn net) (fileAt plan .query) plan k state
 
 abbrev μ-loop : tie.MeasureT-loop
 μ-loop net size chart plan read query legs state₀ k₀ state k =
@@ -30,7 +30,7 @@ loop-holds c =
       omega arith,
       d .legs,
       omega (arith, d .legs, says-few (a .plan .now) (c .before .before .before .before .before .before .pre .1)),
-      riding-none (theoryAt (a .net .now)) (λ l t. tt) (fileAt (a .plan .now) .query) (a .plan .now) _ (ap (λ (q : Query). q .start) (d .query)) (ap (λ (q : Query). q .earliest) (d .query)) refl,
+      riding-none (theoryIn (a .net .now)) (λ l t. tt) (fileAt (a .plan .now) .query) (a .plan .now) _ (ap (λ (q : Query). q .start) (d .query)) (ap (λ (q : Query). q .earliest) (d .query)) refl,
     )
 
 ride-requires : tie.Need-ride-requires Inv-loop μ-loop
@@ -45,7 +45,7 @@ returns-2 c =
     let l = c .before .before .before .before .loop in
     let d = c .before .before .before .before .before .before .before .before .before .before .before .pre .2 in
     let s = a .plan .now in
-    let N = theoryAt (a .net .now) in
+    let N = theoryIn (a .net .now) in
     let one = verdict-one s (λ z. c .before .before .before .before .before .before .before .if1 .left (d .verdict ∙ z)) in
     λ h.
     riding-not N (λ l t. tt) (fileAt s .query) s (l .k) (l .state) (c .before .before .ride .result) (l .inv .3) (c .before .before .ride .ensures) (not-true _ (c .if2 .taken))
@@ -64,7 +64,7 @@ loop-again c =
       omega arith,
       l .inv .1,
       l .inv .2,
-      riding-more (theoryAt (a .net .now)) (λ l t. tt) (fileAt (a .plan .now) .query) (a .plan .now) (l .k) (l .state) (c .before .before .ride .result) (l .inv .3) (c .before .before .ride .ensures) (not-false _ (c .if2 .left)),
+      riding-more (theoryIn (a .net .now)) (λ l t. tt) (fileAt (a .plan .now) .query) (a .plan .now) (l .k) (l .state) (c .before .before .ride .result) (l .inv .3) (c .before .before .ride .ensures) (not-false _ (c .if2 .left)),
     )
 
 returns-3 : tie.Need-returns-3 Inv-loop μ-loop

@@ -3,7 +3,8 @@ use Rattle.leg.specs.declared.Leg.{Leg}
 use Rattle.leg.specs.Toll.{tollAt}
 use Rattle.network.proofs.Sound.{SoundLeg}
 use Rattle.plan_reader.specs.InPlace.{rideAt}
-use Rattle.gate.specs.Parts.{theoryAt, netAt, legOf}
+use Rattle.chart.specs.Net.{netIn, theoryIn}
+use Rattle.gate.specs.Parts.{legOf}
 use Rattle.gate.proofs.Net.{read, charted, leg-is, leg-sound}
 use Rattle.gate.proofs.Rides.{toll-small, rode-not, rode-on}
 use Prim.Native.Nat.{ℕ, _+_, _*_, _<_}
@@ -23,7 +24,7 @@ this-leg c =
     c .leg-at .ensures ∙ leg-is (a .net .now) (a .size) (a .chart .now) (p .0) (c .before .before .before .before .before .pair .result .first) (c .before .before .if1 .left)
 
 its-sound : (c : tie.After-leg-at)
-    → SoundLeg (netAt (c .before .before .before .before .before .before .before .before .args .net .now) .places) (c .leg-at .result)
+    → SoundLeg (netIn (c .before .before .before .before .before .before .before .before .args .net .now) .places) (c .leg-at .result)
 its-sound c =
     let a = c .before .before .before .before .before .before .before .before .args in
     let p = c .before .before .before .before .before .before .before .before .pre in
@@ -48,7 +49,7 @@ returns : tie.Need-returns
 returns c =
     let a = c .before .before .before .before .before .before .before .args in
     let n = a .net .now in
-    rode-not (theoryAt n) (rideAt (a .plan .now) (a .k)) (a .state) (c .off .result) (c .off .ensures)
+    rode-not (theoryIn n) (rideAt (a .plan .now) (a .k)) (a .state) (c .off .result) (c .off .ensures)
     (λ b. omega (arith, b .known, c .before .before .before .before .pair .ensures .0, c .before .if1 .taken, read n (a .size) (a .chart .now) (c .before .before .before .before .before .before .before .pre .0) .legs))
 
 mul-leg-at : tie.Need-mul-leg-at
@@ -71,7 +72,7 @@ returns-2 : tie.Need-returns-2
 returns-2 c =
     let a = c .before .before .before .before .before .before .before .before .before .before .before .before .args in
     let n = a .net .now in
-    rode-not (theoryAt n) (rideAt (a .plan .now) (a .k)) (a .state) (c .off2 .result) (c .off2 .ensures)
+    rode-not (theoryIn n) (rideAt (a .plan .now) (a .k)) (a .state) (c .off2 .result) (c .off2 .ensures)
     (λ b. c .before .if2 .taken (ap (λ (x : Leg). x .from) (this-leg (c .before .before .before .before)) ∙ ap (λ (x : ℕ). legOf n x .from) (c .before .before .before .before .before .before .before .before .before .pair .ensures .0) ∙ b .here))
 
 off-requires-3 : tie.Need-off-requires-3
@@ -81,7 +82,7 @@ returns-3 : tie.Need-returns-3
 returns-3 c =
     let a = c .before .before .before .before .before .before .before .before .before .before .before .before .before .args in
     let n = a .net .now in
-    rode-not (theoryAt n) (rideAt (a .plan .now) (a .k)) (a .state) (c .off3 .result) (c .off3 .ensures)
+    rode-not (theoryIn n) (rideAt (a .plan .now) (a .k)) (a .state) (c .off3 .result) (c .off3 .ensures)
     (λ b. omega (arith, b .after, c .before .before .before .before .before .before .before .before .before .before .pair .ensures .1, c .before .if3 .taken))
 
 toll-at-requires : tie.Need-toll-at-requires
@@ -107,7 +108,7 @@ returns-4 c =
     let leg = c .before .before .before .before .before .before .before .before .before .leg-at .result in
     let number = c .before .before .before .before .before .before .before .before .before .before .before .before .before .before .pair .ensures .0 in
     let when = c .before .before .before .before .before .before .before .before .before .before .before .before .before .before .pair .ensures .1 in
-    let low : rideAt (a .plan .now) (a .k) .leg < length (netAt n .legs) = omega (arith, number, c .before .before .before .before .before .before .before .before .before .before .before .if1 .left, read n (a .size) (a .chart .now) (c .before .before .before .before .before .before .before .before .before .before .before .before .before .before .before .before .before .pre .0) .legs) in
+    let low : rideAt (a .plan .now) (a .k) .leg < length (netIn n .legs) = omega (arith, number, c .before .before .before .before .before .before .before .before .before .before .before .if1 .left, read n (a .size) (a .chart .now) (c .before .before .before .before .before .before .before .before .before .before .before .before .before .before .before .before .before .pre .0) .legs) in
     let toll = c .before .before .before .before .toll-at in
     let small = toll-small _ _ (c .before .before .before .before .before .before .before .before .before .before .before .before .before .before .pair .result .second) (its-sound w) in
     rw when

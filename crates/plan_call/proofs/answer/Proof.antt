@@ -3,8 +3,8 @@ use lib.Seq.{length-take-le}
 use mathlib.Core.Path.{sym, ap, _∙_}
 use Rattle.answer.specs.declared.PlanAnswer.{PlanAnswer}
 use Rattle.plan_file.specs.PlanFile.{queryOf, noneFile}
-use Rattle.walk.specs.Walk.{netOf}
 use Rattle.tabled.proofs.Serving.{end-in}
+use Rattle.chart.specs.Net.{theoryIn}
 use Rattle.plan_call.proofs.Answers.{no-room, room, none-right, arrival-in, ending, too-long, written}
 use native.Mathlib.Omega.{arith}
 use borrow.Author.Needs.{needs}
@@ -14,14 +14,14 @@ use Rattle.plan_call.proofs.answer.Tie as tie
 returns : tie.Need-returns
 returns c =
     let a = c .before .before .before .before .before .before .before .args in
-    no-room (netOf (a .net .now)) (queryOf (a .query)) (a .out .now) (noneFile (queryOf (a .query))) PlanAnswer.NoPlan
+    no-room (theoryIn (a .net .now)) (queryOf (a .query)) (a .out .now) (noneFile (queryOf (a .query))) PlanAnswer.NoPlan
     (none-right (a .net .now) (a .size) (a .query) (a .cells .now) (c .before .before .before .before .before .before .before .pre) (sym (c .before .before .cell .ensures) ∙ c .before .if1 .taken))
     (c .if2 .taken)
 
 returns-2 : tie.Need-returns-2
 returns-2 c =
     let a = c .before .before .before .before .before .before .before .before .before .before .before .args in
-    room (netOf (a .net .now)) (queryOf (a .query)) (a .out .now) (c .before .before .write-none .last .0) (noneFile (queryOf (a .query))) PlanAnswer.NoPlan
+    room (theoryIn (a .net .now)) (queryOf (a .query)) (a .out .now) (c .before .before .write-none .last .0) (noneFile (queryOf (a .query))) PlanAnswer.NoPlan
     (none-right (a .net .now) (a .size) (a .query) (a .cells .now) (c .before .before .before .before .before .before .before .before .before .before .before .pre) (sym (c .before .before .before .before .before .before .cell .ensures) ∙ c .before .before .before .before .before .if1 .taken))
     (c .before .before .write-none .ensures) 12 (c .before .before .write-none .kept .0 ∙ length-take-le 12 (a .out .now) (c .before .before .before .before .if2 .left)) (c .before .before .before .before .if2 .left)
 
@@ -35,7 +35,7 @@ returns-4 : tie.Need-returns-4
 returns-4 c =
     let a = c .before .before .before .before .before .before .before .before .before .before .before .before .before .before .before .args in
     let n = (96 + 21 * (c .before .before .before .before .before .before .cell2 .result % 64)) / 8 in
-    written (netOf (a .net .now)) (queryOf (a .query)) (a .out .now) (c .before .before .write-plan .last .1 .1 .1 .0) (c .before .before .write-plan .ensures) n
+    written (theoryIn (a .net .now)) (queryOf (a .query)) (a .out .now) (c .before .before .write-plan .last .1 .1 .1 .0) (c .before .before .write-plan .ensures) n
     (c .before .before .write-plan .kept .1 .1 .1 .0 ∙ length-take-le n (a .out .now) (c .before .before .before .before .before .if3 .left)) (c .before .before .before .before .before .if3 .left)
 
 cell-requires : tie.Need-cell-requires

@@ -1,6 +1,6 @@
 use Prim.Native.Nat.{_-_}
 use Rattle.plan_file.specs.PlanFile.{queryOf}
-use Rattle.walk.specs.Walk.{netOf}
+use Rattle.chart.specs.Net.{theoryIn}
 use Rattle.report.proofs.Riding.{leg-in-chart, stands-near, small-sum, arrives-then, arrives-first}
 use Prim.Native.Nat.{_-_}
 use native.Mathlib.Omega.{arith}
@@ -10,7 +10,7 @@ use Rattle.report.proofs.arrival_after.Tie as tie
 
 returns : tie.Need-returns
 returns c =
-    let a = c .before .before .before .before .args in arrives-first (netOf (a .net .now)) (queryOf (a .query)) (a .plan .now) (a .count) (c .if1 .taken)
+    let a = c .before .before .before .before .args in arrives-first (theoryIn (a .net .now)) (queryOf (a .query)) (a .plan .now) (a .count) (c .if1 .taken)
 
 sub-at : tie.Need-sub-at
 sub-at c = search needs

@@ -1,7 +1,7 @@
 use mathlib.Core.Path.{sym, subst}
 use Rattle.plan_file.specs.PlanFile.{queryOf}
-use Rattle.walk.specs.Walk.{netOf}
 use Rattle.text.proofs.Adding.{adds-then, line-long}
+use Rattle.chart.specs.Net.{theoryIn}
 use Rattle.report.specs.Rides.{Ridden}
 use Rattle.report.specs.Report.{answerWord, costWord, arriveWord}
 use Rattle.report.proofs.Telling.{plan-said}
@@ -62,7 +62,7 @@ same-length c = search needs
 returns : tie.Need-returns
 returns c =
     let a = c .before .before .before .before .before .before .before .before .before .before .before .before .before .before .before .before .before .before .before .before .before .before .before .before .before .before .before .args in
-    plan-said (netOf (a .net .now)) (queryOf (a .query)) (a .plan .now) (a .text .now) _ _ (c .before .before .before .before .before .before .before .before .before .before .before .before .before .before .before .before .before .before .before .before .before .before .field .result) (c .before .before .before .before .before .before .before .before .before .before .before .before .before .before .before .before .before .before .before .arrival-after .result) (c .before .before .before .before .before .before .before .before .before .before .before .before .before .before .before .before .before .before .before .before .before .field2 .result)
+    plan-said (theoryIn (a .net .now)) (queryOf (a .query)) (a .plan .now) (a .text .now) _ _ (c .before .before .before .before .before .before .before .before .before .before .before .before .before .before .before .before .before .before .before .before .before .before .field .result) (c .before .before .before .before .before .before .before .before .before .before .before .before .before .before .before .before .before .before .before .arrival-after .result) (c .before .before .before .before .before .before .before .before .before .before .before .before .before .before .before .before .before .before .before .before .before .field2 .result)
     (c .before .before .before .before .before .before .before .before .before .before .before .before .before .before .before .before .before .before .before .before .before .before .field .ensures) (c .before .before .before .before .before .before .before .before .before .before .before .before .before .before .before .before .before .before .before .before .before .field2 .ensures) (c .before .before .before .before .before .before .before .before .before .before .before .before .before .before .before .before .before .before .before .arrival-after .ensures)
     (adds-then (c .before .before .before .before .before .before .before .before .before .before .before .before .before .before .before .before .before .answer-line .ensures) (adds-then (c .before .before .before .before .before .before .before .before .before .before .before .before .line .ensures) (adds-then (c .before .before .before .before .before .before .before .line2 .ensures) (c .before .before .ride-lines .ensures))))
 

@@ -1,8 +1,8 @@
 use Prim.Native.Nat.{_+_, _-_, _*_}
 use Rattle.plan_file.specs.PlanFile.{queryOf}
-use Rattle.walk.specs.Walk.{netOf}
 use Rattle.text.specs.Text.{Adds}
 use Rattle.text.proofs.Adding.{adds-none}
+use Rattle.chart.specs.Net.{theoryIn}
 use Rattle.report.specs.Rides.{ridesIn}
 use Rattle.report.specs.Report.{ridesText}
 use Rattle.report.proofs.Riding.{ridden-less, lines-more, lines-all}
@@ -13,7 +13,7 @@ use Rattle.report.proofs.ride_lines.Statement.{statement}
 use Rattle.report.proofs.ride_lines.Tie as tie
 
 abbrev Inv-loop : tie.InvT-loop
-Inv-loop net chart size plan query count text₀ at to₀ k₀ text to k = (k ≤ count) × Adds text₀ text at to (ridesText (netOf net) (queryOf query) (ridesIn plan k)) × (to ≤ at + 48 * k)
+Inv-loop net chart size plan query count text₀ at to₀ k₀ text to k = (k ≤ count) × Adds text₀ text at to (ridesText (theoryIn net) (queryOf query) (ridesIn plan k)) × (to ≤ at + 48 * k)
 
 abbrev μ-loop : tie.MeasureT-loop
 μ-loop net chart size plan query count text₀ at to₀ k₀ text to k = count - k
@@ -42,7 +42,7 @@ loop-again c =
     let a = c .before .before .before .before .before .before .before .before .before .args in
     let e = c .before .before .ride-line .ensures in (
       omega arith,
-      lines-more (netOf (a .net .now)) (queryOf (a .query)) (a .plan .now) (a .text .now) (l .text) _ (a .at) (l .to) _ (l .k) (l .inv .1) (e .0),
+      lines-more (theoryIn (a .net .now)) (queryOf (a .query)) (a .plan .now) (a .text .now) (l .text) _ (a .at) (l .to) _ (l .k) (l .inv .1) (e .0),
       omega (arith, l .inv .2, e .1),
     )
 
@@ -53,7 +53,7 @@ returns : tie.Need-returns Inv-loop μ-loop
 returns c =
     let l = c .before .loop in
     let a = c .before .before .before .before .before .args in
-    lines-all (netOf (a .net .now)) (queryOf (a .query)) (a .plan .now) (a .text .now) (l .text) (a .at) (l .to) (l .k) (a .count) (omega arith) (l .inv .1)
+    lines-all (theoryIn (a .net .now)) (queryOf (a .query)) (a .plan .now) (a .text .now) (l .text) (a .at) (l .to) (l .k) (a .count) (omega arith) (l .inv .1)
 
 pub ride-lines-spec : {M : Type 1} → statement M
 ride-lines-spec =

@@ -1,7 +1,7 @@
 -- `table::chain`: the legs below l are chained.
-use Rattle.table.specs.Ask.{netIn, planned}
+use Rattle.chart.specs.Net.{theoryIn}
+use Rattle.chart.proofs.Net.{few-legs, charted}
 use Rattle.table.specs.Chains.{Chained}
-use Rattle.table.proofs.InFile.{few-legs, leg-near}
 use Rattle.table.proofs.Chaining.{chained-none, from-few, chain-more}
 use borrow.Author.Needs.{needs}
 use Prim.Native.Nat.{_-_, _≤_}
@@ -13,7 +13,7 @@ use Rattle.table.proofs.chain.Tie as tie
 
 abbrev Inv-loop : tie.InvT-loop
 Inv-loop net size chart last₀ before₀ legs l₀ last before l =
-    (l ≤ legs) × (length last ≡ 64) × (length before ≡ 512) × Chained (planned (netIn net)) l last before
+    (l ≤ legs) × (length last ≡ 64) × (length before ≡ 512) × Chained (theoryIn net) l last before
 
 abbrev μ-loop : tie.MeasureT-loop
 μ-loop net size chart last₀ before₀ legs l₀ last before l = legs - l
@@ -40,7 +40,7 @@ element-copy-out-leg-at c =
 leg-at-requires : tie.Need-leg-at-requires Inv-loop μ-loop
 leg-at-requires c κs =
     let start = c .before .before .before .before .before .before in
-    leg-near (start .args .net .now) (start .args .size) (start .pre .0) (start .args .chart .now) (start .pre .1) (c .before .before .loop .l) (c .before .loop-test .taken)
+    charted (start .args .net .now) (start .args .size) (start .pre .0) (start .args .chart .now) (start .pre .1) .near (c .before .before .loop .l)
 
 cast-from : tie.Need-cast-from Inv-loop μ-loop
 cast-from c = search needs

@@ -1,5 +1,5 @@
 -- `table::ride_leg`: the leg that the chart gives is leg l, and its rides are done.
-use Rattle.table.proofs.InFile.{few-legs, leg-near}
+use Rattle.chart.proofs.Net.{few-legs, charted}
 use Rattle.table.proofs.Legs.{leg-room, leg-done}
 use native.Mathlib.Omega.{arith}
 use borrow.Author.Needs.{needs}
@@ -26,7 +26,7 @@ leg-at-requires : tie.Need-leg-at-requires
 leg-at-requires c κs =
     let start = c .before .before .before .before .before in
     let g = start .pre .0 in
-    leg-near (start .args .net .now) (start .args .size) (g .sound) (start .args .chart .now) (g .charted) (start .args .l) (g .known)
+    charted (start .args .net .now) (start .args .size) (g .sound) (start .args .chart .now) (g .charted) .near (start .args .l)
 
 width-requires : tie.Need-width-requires
 width-requires c κs = search needs

@@ -1,5 +1,5 @@
 -- `table::ride_legs`: the legs of p from l on are done; l falls along the chain.
-use Rattle.table.proofs.InFile.{few-legs, few-places}
+use Rattle.chart.proofs.Net.{few-places, few-legs}
 use Rattle.table.proofs.Chaining.{Riding, riding-none, riding-now, riding-less, riding-more, riding-done}
 use borrow.Author.Needs.{needs}
 use native.Mathlib.Omega.{arith}
@@ -24,7 +24,7 @@ mul-l c = search needs
 element-copy-out-l : tie.Need-element-copy-out-l Inv-loop μ-loop
 element-copy-out-l c =
     let start = c .before .before .before .before in
-    omega (arith, start .pre .1, few-places (start .args .net .now) (start .args .size) (start .pre .0 .sound) .1)
+    omega (arith, start .pre .1, few-places (start .args .net .now) (start .args .size) (start .pre .0 .sound))
 
 loop-holds : tie.Need-loop-holds Inv-loop μ-loop
 loop-holds c =

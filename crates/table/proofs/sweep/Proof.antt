@@ -1,7 +1,8 @@
 -- `table::sweep`: what the sweep keeps; the sum of the cells falls, or else fewer columns are new.
-use Rattle.table.proofs.InFile.{few-places}
+use Rattle.chart.specs.Net.{theoryIn}
+use Rattle.chart.proofs.Net.{few-places}
 use Rattle.table.proofs.Visits.{turn-falls, turn-long, swept}
-use Rattle.table.specs.Ask.{netIn, planned, query}
+use Rattle.table.specs.Ask.{query}
 use Rattle.table.specs.Kept.{Kept, Never, NextNew}
 use Rattle.table.proofs.Sweeps.{left}
 use borrow.Author.Needs.{needs}
@@ -13,7 +14,7 @@ use Rattle.table.proofs.sweep.Tie as tie
 
 abbrev Inv-loop : tie.InvT-loop
 Inv-loop net size chart last before ask row₀ cells₀ low₀ places w p₀ row cells low p =
-    (length row ≡ length row₀) × (length low ≡ 64) × Kept (planned (netIn net)) (query ask) cells low Never × NextNew low places w p
+    (length row ≡ length row₀) × (length low ≡ 64) × Kept (theoryIn net) (query ask) cells low Never × NextNew low places w p
 
 abbrev μ-loop : tie.MeasureT-loop
 μ-loop net size chart last before ask row₀ cells₀ low₀ places w p₀ row cells low p = left cells low
@@ -33,7 +34,7 @@ width-requires c κs = search needs
 next-requires : tie.Need-next-requires Inv-loop μ-loop
 next-requires c κs =
     let start = c .before .before .before .before .before .before .before in
-    (omega arith, omega (arith, start .pre .2, few-places (start .args .net .now) (start .args .size) (start .pre .0 .sound) .1))
+    (omega arith, omega (arith, start .pre .2, few-places (start .args .net .now) (start .args .size) (start .pre .0 .sound)))
 
 loop-holds : tie.Need-loop-holds Inv-loop μ-loop
 loop-holds c = (refl, c .before .before .before .before .before .before .before .before .pre .2, c .before .before .before .before .before .before .before .before .pre .3, c .next .ensures)
@@ -48,7 +49,7 @@ next-requires-2 c κs =
     let start = c .before .before .before .before .before .before .before .before .before .before .before .before .before .before .before .before .before .before .before .before .before in
     let l = c .before .before .before .before .before .before .before .before .before .before .before .before .loop in
     let long = turn-long (start .args .net .now) (start .args .size) (start .args .ask) (start .args .chart .now) (start .args .last .now) (start .args .before .now) (start .pre .0) (c .before .before .before .before .before .before .before .before .before .before .before .before .before .before .before .width .result) (c .before .before .before .before .before .before .before .before .before .before .before .before .before .before .before .width .ensures) (l .cells) (c .before .before .before .before .before .before .before .visit .last .1 .1 .1 .1 .1 .1 .1 .1 .0) (l .low) (c .before .before .before .before .before .before .before .visit .last .1 .1 .1 .1 .1 .1 .1 .1 .1 .0) (l .p) (l .inv .1) (c .before .before .before .before .before .before .before .visit .ensures) in
-    (l .inv .3 .within, omega (arith, long, few-places (start .args .net .now) (start .args .size) (start .pre .0 .sound) .1))
+    (l .inv .3 .within, omega (arith, long, few-places (start .args .net .now) (start .args .size) (start .pre .0 .sound)))
 
 loop-less : tie.Need-loop-less Inv-loop μ-loop
 loop-less c =

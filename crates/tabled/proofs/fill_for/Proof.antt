@@ -6,7 +6,7 @@ use Rattle.network.specs.declared.NetworkFound.{NetworkFound}
 use Rattle.network.specs.Network.{ofFile}
 use Rattle.network.specs.Answers.{networkFound}
 use Rattle.plan_file.specs.PlanFile.{queryOf}
-use Rattle.walk.proofs.Nets.{few-places}
+use Rattle.chart.proofs.Net.{few-places}
 use Rattle.tabled.specs.declared.Judgement.the-variants.{Serve}
 use Rattle.tabled.specs.Judge.{judgement}
 use Rattle.tabled.proofs.Judging.{Passed, passed}

@@ -5,9 +5,11 @@ use Rattle.leg.specs.declared.Leg.{Leg}
 use Rattle.plan.specs.Table.{cellAt}
 use Rattle.plan.proofs.Walk.{Fits, some-fits}
 use Rattle.plan_file.specs.PlanFile.{queryOf}
-use Rattle.walk.specs.Walk.{netOf, Arriving, Tells, LegFits, legAt}
+use Rattle.chart.specs.Net.{theoryIn}
+use Rattle.chart.proofs.Net.{legs-are, few-places, few-legs}
+use Rattle.walk.specs.Walk.{Arriving, Tells, LegFits, legAt}
 use Rattle.walk.proofs.Cells.{none-lower}
-use Rattle.walk.proofs.Nets.{fits-of, of-fits, legs-are, few-legs, few-places, in-table, leg-stands, reads-from, has-leg, sound-leg}
+use Rattle.walk.proofs.Nets.{fits-of, of-fits, in-table, leg-stands, reads-from, has-leg, sound-leg}
 use borrow.Author.Needs.{needs}
 use Prim.Native.Nat.{ℕ, _-_, _≤_, _<_}
 use native.Mathlib.Omega.{arith}
@@ -21,7 +23,7 @@ Inv-loop net chart cells size query place arrival legs k₀ k =
     (k ≤ legs) × (legs ≡ size .legs) × (legs ≤ 512)
     × Arriving net chart cells size query place (arrival .0)
     × (cellAt (queryOf query) cells place (arrival .0) ≢ 0)
-    × ((l d : ℕ) → l < k → Fits (netOf net) (queryOf query) (cellAt (queryOf query) cells) place (arrival .0) l d → ⊥)
+    × ((l d : ℕ) → l < k → Fits (theoryIn net) (queryOf query) (cellAt (queryOf query) cells) place (arrival .0) l d → ⊥)
 
 abbrev μ-loop : tie.MeasureT-loop
 μ-loop net chart cells size query place arrival legs k₀ k = legs - k
@@ -37,7 +39,7 @@ returns c =
     let has = has-leg (a .net .now) (a .size) (w .sound) (a .chart .now) (w .charted) (l .k) (omega arith) _ (c .before .before .before .leg-at .ensures) in
     let fit = subst (λ (x : Leg). LegFits q cell x (a .place) (a .arrival .0) (a .arrival .0 - x .time .0)) (sym (c .before .before .before .leg-at .ensures)) told in
     record {
-      fit = fits-of (netOf (a .net .now)) q cell (l .k) (c .before .before .before .leg-at .result) has (a .place) (a .arrival .0) _ (l .inv .3 .departing .within .late) fit;
+      fit = fits-of (theoryIn (a .net .now)) q cell (l .k) (c .before .before .before .leg-at .result) has (a .place) (a .arrival .0) _ (l .inv .3 .departing .within .late) fit;
       lowest = λ m d. l .inv .5 m d;
       from = sym (has .source);
     }
@@ -49,7 +51,7 @@ returns-2 c =
     let l = c .before .loop in
     let d = l .inv .3 .departing in
     let w = d .walkable in
-    let f = some-fits (netOf (a .net .now)) q (w .asked) (cellAt q (a .cells .now)) (w .table) (a .place) (a .arrival .0) (d .within) (l .inv .3 .first) (d .plan) (l .inv .4) in
+    let f = some-fits (theoryIn (a .net .now)) q (w .asked) (cellAt q (a .cells .now)) (w .table) (a .place) (a .arrival .0) (d .within) (l .inv .3 .first) (d .plan) (l .inv .4) in
     absurd (l .inv .5 (f .0) (f .1) (omega (arith, f .2 .leaves .known, legs-are (a .net .now) (a .size) (w .sound))) (f .2))
 
 loop-holds : tie.Need-loop-holds Inv-loop μ-loop
@@ -113,8 +115,8 @@ loop-again c =
       l .inv .2,
       l .inv .3,
       l .inv .4,
-      none-lower (λ m d. Fits (netOf (a .net .now)) q cell (a .place) (a .arrival .0) m d) (l .k) (l .inv .5)
-          (λ d f. told d (of-fits (netOf (a .net .now)) q cell (l .k) _ has (a .place) (a .arrival .0) d f)),
+      none-lower (λ m d. Fits (theoryIn (a .net .now)) q cell (a .place) (a .arrival .0) m d) (l .k) (l .inv .5)
+          (λ d f. told d (of-fits (theoryIn (a .net .now)) q cell (l .k) _ has (a .place) (a .arrival .0) d f)),
     )
 
 pub find-leg-spec : {M : Type 1} → statement M
