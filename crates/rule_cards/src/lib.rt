@@ -14,9 +14,10 @@ use card::Shown;
 use leg::Cents;
 use leg::Minute;
 
-// How many steps a place's card has room for, and how many bands a leg's.
+// How many steps a place's card has room for.
 const STEPS: usize = 16;
 
+// How many bands a leg's card has room for.
 const BANDS: usize = 8;
 
 // Is there a value at the arrival, and does it cover a value at the departure and the toll?
@@ -77,10 +78,10 @@ fn band_obeys(
     }
     let toll = tolls[k];
     let here = card::look(minutes, prices, from, STEPS, Minute(departure));
-    let there = card::look(minutes, prices, to, STEPS, Minute(arrival)); // after a band's start
     if !here.has {
         return true; // no value at the departure
     }
+    let there = card::look(minutes, prices, to, STEPS, Minute(arrival)); // after a band's start
     covered(here.price, Cents(toll), there)
 }
 

@@ -24,33 +24,33 @@ returns c i j leg steps bands b low =
     rule-late (a .latest .0) leg i j (slot (a .starts .now) 0 (a .k)) (a .time .0) (b .time-is) (omega (arith, c .if1 .taken, slot-first (a .starts .now) (a .k)))
 
 -- the toll on the card is the leg's at the departure
-toll-at : (c : tie.After-look2) (i j : List Step) (leg : Leg) (steps bands : ℕ)
-    → Between (c .before .before .before .before .before .before .before .before .before .before .before .args .minutes .now) (c .before .before .before .before .before .before .before .before .before .before .before .args .prices .now) (c .before .before .before .before .before .before .before .before .before .before .before .args .from) (c .before .before .before .before .before .before .before .before .before .before .before .args .to) (c .before .before .before .before .before .before .before .before .before .before .before .args .starts .now) (c .before .before .before .before .before .before .before .before .before .before .before .args .tolls .now) steps bands (c .before .before .before .before .before .before .before .before .before .before .before .args .time .0) i j leg
-    → c .before .before .before .before .before .before .before .before .before .before .before .args .k < bands → tollAt leg (getD (c .before .before .before .before .before .before .before .before .before .before .before .args .starts .now) (c .before .before .before .before .before .before .before .before .before .before .before .args .k) 0) ≡ getD (c .before .before .before .before .before .before .before .before .before .before .before .args .tolls .now) (c .before .before .before .before .before .before .before .before .before .before .before .args .k) 0
+toll-at : (c : tie.After-look) (i j : List Step) (leg : Leg) (steps bands : ℕ)
+    → Between (c .before .before .before .before .before .before .before .before .before .before .args .minutes .now) (c .before .before .before .before .before .before .before .before .before .before .args .prices .now) (c .before .before .before .before .before .before .before .before .before .before .args .from) (c .before .before .before .before .before .before .before .before .before .before .args .to) (c .before .before .before .before .before .before .before .before .before .before .args .starts .now) (c .before .before .before .before .before .before .before .before .before .before .args .tolls .now) steps bands (c .before .before .before .before .before .before .before .before .before .before .args .time .0) i j leg
+    → c .before .before .before .before .before .before .before .before .before .before .args .k < bands → tollAt leg (getD (c .before .before .before .before .before .before .before .before .before .before .args .starts .now) (c .before .before .before .before .before .before .before .before .before .before .args .k) 0) ≡ getD (c .before .before .before .before .before .before .before .before .before .before .args .tolls .now) (c .before .before .before .before .before .before .before .before .before .before .args .k) 0
 toll-at c i j leg steps bands b low =
-    let a = c .before .before .before .before .before .before .before .before .before .before .before .args in
+    let a = c .before .before .before .before .before .before .before .before .before .before .args in
     subst (λ (t : ℕ). tollAt leg t ≡ slot (a .tolls .now) 0 (a .k)) (slot-first (a .starts .now) (a .k)) (b .band-is (a .k) low) ∙ slot-first (a .tolls .now) (a .k)
 
 -- what is decided at the departure is decided at slot k
-decided : (c : tie.After-look2) (r : Bool) (i j : List Step) (leg : Leg) (steps bands : ℕ)
-    → Between (c .before .before .before .before .before .before .before .before .before .before .before .args .minutes .now) (c .before .before .before .before .before .before .before .before .before .before .before .args .prices .now) (c .before .before .before .before .before .before .before .before .before .before .before .args .from) (c .before .before .before .before .before .before .before .before .before .before .before .args .to) (c .before .before .before .before .before .before .before .before .before .before .before .args .starts .now) (c .before .before .before .before .before .before .before .before .before .before .before .args .tolls .now) steps bands (c .before .before .before .before .before .before .before .before .before .before .before .args .time .0) i j leg
-    → c .before .before .before .before .before .before .before .before .before .before .before .args .k < bands
-    → Is r (Covers (shown (c .before .look .result .has) (c .before .look .result .price .0)) (value j (getD (c .before .before .before .before .before .before .before .before .before .before .before .args .starts .now) (c .before .before .before .before .before .before .before .before .before .before .before .args .k) 0 + c .before .before .before .before .before .before .before .before .before .before .before .args .time .0)) (getD (c .before .before .before .before .before .before .before .before .before .before .before .args .tolls .now) (c .before .before .before .before .before .before .before .before .before .before .before .args .k) 0))
-    → Is r (RuleIf (c .before .before .before .before .before .before .before .before .before .before .before .args .latest .0) leg i j (slot (c .before .before .before .before .before .before .before .before .before .before .before .args .starts .now) 0 (c .before .before .before .before .before .before .before .before .before .before .before .args .k)))
+decided : (c : tie.After-look) (r : Bool) (i j : List Step) (leg : Leg) (steps bands : ℕ)
+    → Between (c .before .before .before .before .before .before .before .before .before .before .args .minutes .now) (c .before .before .before .before .before .before .before .before .before .before .args .prices .now) (c .before .before .before .before .before .before .before .before .before .before .args .from) (c .before .before .before .before .before .before .before .before .before .before .args .to) (c .before .before .before .before .before .before .before .before .before .before .args .starts .now) (c .before .before .before .before .before .before .before .before .before .before .args .tolls .now) steps bands (c .before .before .before .before .before .before .before .before .before .before .args .time .0) i j leg
+    → c .before .before .before .before .before .before .before .before .before .before .args .k < bands
+    → Is r (Covers (shown (c .look .result .has) (c .look .result .price .0)) (value j (getD (c .before .before .before .before .before .before .before .before .before .before .args .starts .now) (c .before .before .before .before .before .before .before .before .before .before .args .k) 0 + c .before .before .before .before .before .before .before .before .before .before .args .time .0)) (getD (c .before .before .before .before .before .before .before .before .before .before .args .tolls .now) (c .before .before .before .before .before .before .before .before .before .before .args .k) 0))
+    → Is r (RuleIf (c .before .before .before .before .before .before .before .before .before .before .args .latest .0) leg i j (slot (c .before .before .before .before .before .before .before .before .before .before .args .starts .now) 0 (c .before .before .before .before .before .before .before .before .before .before .args .k)))
 decided c r i j leg steps bands b low covers =
-    let s = c .before .before .before .before .before .before .before .before .before .before .before in
+    let s = c .before .before .before .before .before .before .before .before .before .before in
     let a = s .args in
     let d = getD (a .starts .now) (a .k) 0 in
-    let here = c .before .look in
-    let soon : d + a .time .0 ≤ a .latest .0 = omega (arith, c .before .before .before .if1 .left) in
+    let here = c .look in
+    let soon : d + a .time .0 ≤ a .latest .0 = omega (arith, c .before .before .if1 .left) in
     subst (λ (t : ℕ). Is r (RuleIf (a .latest .0) leg i j t)) (sym (slot-first (a .starts .now) (a .k)))
     (rule-tested leg i j d (d + a .time .0) (a .time .0) (shown (here .result .has) (here .result .price .0)) (getD (a .tolls .now) (a .k) 0) (b .time-is) refl
     (b .i-held d (here .result) (omega (arith, soon, s .pre .5)) (here .ensures)) (toll-at c i j leg steps bands b low) (a .latest .0) r soon covers)
 
 returns-2 : tie.Need-returns-2
 returns-2 c i j leg steps bands b low =
-    let a = c .before .before .before .before .before .before .before .before .before .before .before .before .before .args in
-    let here = c .before .before .before .look .result in
+    let a = c .before .before .before .before .before .before .before .before .before .before .before .before .args in
+    let here = c .before .before .look .result in
     decided (c .before .before) true i j leg steps bands b low
     (covers-nothing (here .has) (here .price .0) (getD (a .tolls .now) (a .k) 0) (value j (getD (a .starts .now) (a .k) 0 + a .time .0)) (not-true _ (c .if2 .taken)))
 
@@ -60,11 +60,11 @@ returns-3 c i j leg steps bands b low =
     let a = s .args in
     let d = getD (a .starts .now) (a .k) 0 in
     let here = c .before .before .before .before .look .result in
-    let there = c .before .before .before .look2 in
+    let there = c .before .look2 in
     let arrives = b .j-held (d + a .time .0) (there .result) (omega (arith, c .before .before .before .before .before .before .if1 .left, s .pre .5)) (there .ensures) in
-    decided (c .before .before .before) (c .covered .result) i j leg steps bands b low
+    decided (c .before .before .before .before) (c .covered .result) i j leg steps bands b low
     (covers-some (here .has) (here .price .0) (getD (a .tolls .now) (a .k) 0) (value j (d + a .time .0)) (shown (there .result .has) (there .result .price .0)) (c .covered .result)
-    (not-false _ (c .before .if2 .left)) arrives (c .covered .ensures))
+    (not-false _ (c .before .before .if2 .left)) arrives (c .covered .ensures))
 
 shared-slice-read-departure : tie.Need-shared-slice-read-departure
 shared-slice-read-departure c = omega (arith, c .before .before .before .before .before .pre .2 .card .room, c .before .before .before .before .before .pre .3)
@@ -82,8 +82,8 @@ look-requires c κs =
 
 look-requires-2 : tie.Need-look-requires-2
 look-requires-2 c κs =
-    let card = c .before .before .before .before .before .before .before .before .before .before .pre .1 in
-    (card .card, card .price-room, omega (arith, c .before .before .if1 .left, c .before .before .before .before .before .before .before .before .before .before .pre .5))
+    let card = c .before .before .before .before .before .before .before .before .before .before .before .before .pre .1 in
+    (card .card, card .price-room, omega (arith, c .before .before .before .before .if1 .left, c .before .before .before .before .before .before .before .before .before .before .before .before .pre .5))
 
 covered-requires : tie.Need-covered-requires
 covered-requires c κs = search needs
@@ -105,7 +105,7 @@ band-obeys-spec =
     mul-toll
     shared-slice-read-toll
     look-requires
-    look-requires-2
     returns-2
+    look-requires-2
     covered-requires
     returns-3)
