@@ -30,13 +30,15 @@ fn answer_line(text: &mut [u8], number: u32) -> usize
 }
 
 // `leg L leave D wait W`.
-fn leg_line(text: &mut [u8], at: usize, leg: u32, departure: u32, wait: u32) -> usize
+fn leg_line(text: &mut [u8], at: usize, leg: u32, departure: Minute, wait: Minute) -> usize
     requires { ⌜ at + 48 ≤ length (now text) ⌝ }
-    ensures { λ r. ⌜ Adds (now (text .entry)) (now (text .exit)) at r (legText leg departure wait) × (r ≤ at + 48) ⌝ }
+    ensures { λ r. ⌜ Adds (now (text .entry)) (now (text .exit)) at r (legText leg (departure .0) (wait .0)) × (r ≤ at + 48) ⌝ }
 {
+    let leaves = departure.0;
+    let waits = wait.0;
     let after_leg = text::item(text, at, b"leg ", leg);
-    let after_leave = text::item(text, after_leg, b" leave ", departure);
-    text::line(text, after_leave, b" wait ", wait)
+    let after_leave = text::item(text, after_leg, b" leave ", leaves);
+    text::line(text, after_leave, b" wait ", waits)
 }
 
 // When the first `count` rides of a plan file have arrived: at earliest where there are none.
@@ -47,13 +49,13 @@ fn arrival_after(
     plan: &[u8],
     query: Query,
     count: usize,
-) -> u32
+) -> Minute
     requires { ⌜ Chart (now net) (now chart) × Ridden (now net) size (now plan) (queryOf query) count ⌝ }
-    ensures { λ r. ⌜ r ≡ arrival (theoryIn (now (net .entry))) (queryOf query) (ridesIn (now (plan .entry)) count) ⌝ }
+    ensures { λ r. ⌜ r .0 ≡ arrival (theoryIn (now (net .entry))) (queryOf query) (ridesIn (now (plan .entry)) count) ⌝ }
 {
     let earliest = query.earliest;
     if count == 0 {
-        return earliest.0;
+        return earliest;
     }
     let at = 89 + 21 * (count - 1);
     let said = reader::pair(plan, at, 9, 12);
@@ -61,7 +63,8 @@ fn arrival_after(
     let departure = said.second;
     let ridden = chart::leg_at(net, size.places, chart[leg]);
     let time = ridden.time;
-    departure + time.0
+    let arrived = departure + time.0;
+    Minute(arrived)
 }
 
 // The line of ride `k`.
@@ -86,7 +89,9 @@ fn ride_line(
     let leg = said.first;
     let departure = said.second;
     let before = arrival_after(net, chart, size, plan, query, k);
-    leg_line(text, at, leg, departure, departure - before)
+    let arrived = before.0;
+    let wait = departure - arrived;
+    leg_line(text, at, leg, Minute(departure), Minute(wait))
 }
 
 // The lines of all rides.
@@ -124,9 +129,10 @@ fn plan_lines(net: &[u8], size: Size, plan: &[u8], query: Query, text: &mut [u8]
     let cost = reader::field(plan, 45, 32);
     let count = reader::field(plan, 77, 12) as usize;
     let arrival = arrival_after(net, &chart, size, plan, query, count);
+    let arrived = arrival.0;
     let after_answer = answer_line(text, 0);
     let after_cost = text::line(text, after_answer, b"cost ", cost);
-    let after_arrive = text::line(text, after_cost, b"arrive ", arrival);
+    let after_arrive = text::line(text, after_cost, b"arrive ", arrived);
     ride_lines(net, &chart, size, plan, query, count, text, after_arrive)
 }
 

@@ -38,8 +38,8 @@ leg-at-requires : tie.Need-leg-at-requires
 leg-at-requires c κs =
     stands-near (c .before .before .before .before .before .before .before .args .net .now) (c .before .before .before .before .before .before .before .args .size) (c .before .before .before .before .before .before .before .args .plan .now) (queryOf (c .before .before .before .before .before .before .before .args .query)) (c .before .before .before .before .before .before .before .args .chart .now) (c .before .before .before .before .before .before .before .pre .0) (c .before .before .before .before .before .before .before .args .count) (c .before .before .before .before .before .before .before .args .count - 1) (omega (arith, c .before .before .before .if1 .left)) (c .before .before .before .before .before .before .before .pre .1) _ (c .before .before .pair .ensures .0)
 
-add-result : tie.Need-add-result
-add-result c =
+add-arrived : tie.Need-add-arrived
+add-arrived c =
     omega (arith, small-sum (c .before .before .before .before .before .before .before .before .before .before .args .net .now) (c .before .before .before .before .before .before .before .before .before .before .args .size) (c .before .before .before .before .before .before .before .before .before .before .args .plan .now) (queryOf (c .before .before .before .before .before .before .before .before .before .before .args .query)) (c .before .before .before .before .before .before .before .before .before .before .args .chart .now) (c .before .before .before .before .before .before .before .before .before .before .pre .0) (c .before .before .before .before .before .before .before .before .before .before .args .count) (c .before .before .before .before .before .before .before .before .before .before .args .count - 1) (omega (arith, c .before .before .before .before .before .before .if1 .left)) (c .before .before .before .before .before .before .before .before .before .before .pre .1) _ (c .before .before .before .before .before .pair .ensures .0) _ (c .before .before .before .before .before .pair .ensures .1) _ (c .before .before .leg-at .ensures))
 
 returns-2 : tie.Need-returns-2
@@ -59,5 +59,5 @@ arrival-after-spec =
     mul-leg-at
     element-copy-out-leg-at
     leg-at-requires
-    add-result
+    add-arrived
     returns-2)

@@ -25,7 +25,7 @@ line-requires : tie.Need-line-requires
 line-requires c κs =
     let e = c .before .before .before .before .before .before .before .before .before .item .ensures in
     let f = c .before .before .before .before .item2 .ensures in
-    omega (arith, c .before .before .before .before .before .before .before .before .before .before .before .before .before .pre, e .to-is, e .same-length, f .to-is, f .same-length, item-long legWord (c .before .before .before .before .before .before .before .before .before .before .before .before .before .args .leg), item-long leaveWord (c .before .before .before .before .before .before .before .before .before .before .before .before .before .args .departure))
+    omega (arith, c .before .before .before .before .before .before .before .before .before .before .before .before .before .pre, e .to-is, e .same-length, f .to-is, f .same-length, item-long legWord (c .before .before .before .before .before .before .before .before .before .before .before .before .before .args .leg), item-long leaveWord (c .before .before .before .before .before .before .before .before .before .before .before .before .before .args .departure .0))
 
 same-length : tie.Need-same-length
 same-length c = search needs
@@ -37,7 +37,7 @@ returns c =
     let f = c .before .before .before .before .before .before .before .item2 .ensures in
     let g = c .before .before .line .ensures in (
       adds-then e (adds-then f g),
-      omega (arith, e .to-is, f .to-is, g .to-is, item-long legWord (a .leg), item-long leaveWord (a .departure), line-long waitWord (a .wait)),
+      omega (arith, e .to-is, f .to-is, g .to-is, item-long legWord (a .leg), item-long leaveWord (a .departure .0), line-long waitWord (a .wait .0)),
     )
 
 pub leg-line-spec : {M : Type 1} → statement M

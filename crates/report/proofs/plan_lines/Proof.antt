@@ -53,7 +53,7 @@ ride-lines-requires c κs =
     let g = c .before .before .before .before .line2 .ensures in (
       c .before .before .before .before .before .before .before .before .before .before .before .before .before .before .before .before .before .before .before .before .chart .ensures,
       subst (Ridden (c .before .before .before .before .before .before .before .before .before .before .before .before .before .before .before .before .before .before .before .before .before .before .before .before .args .net .now) (c .before .before .before .before .before .before .before .before .before .before .before .before .before .before .before .before .before .before .before .before .before .before .before .before .args .size) (c .before .before .before .before .before .before .before .before .before .before .before .before .before .before .before .before .before .before .before .before .before .before .before .before .args .plan .now) (queryOf (c .before .before .before .before .before .before .before .before .before .before .before .before .before .before .before .before .before .before .before .before .before .before .before .before .args .query))) (sym (c .before .before .before .before .before .before .before .before .before .before .before .before .before .before .before .before .before .before .field2 .ensures)) (c .before .before .before .before .before .before .before .before .before .before .before .before .before .before .before .before .before .before .before .before .before .before .before .before .pre .0),
-      omega (arith, e .to-is, e .same-length, f .to-is, f .same-length, g .to-is, g .same-length, line-long answerWord 0, line-long costWord (c .before .before .before .before .before .before .before .before .before .before .before .before .before .before .before .before .before .before .before .field .result), line-long arriveWord (c .before .before .before .before .before .before .before .before .before .before .before .before .before .before .before .before .arrival-after .result), c .before .before .before .before .before .before .before .before .before .before .before .before .before .before .before .before .before .before .before .before .before .before .before .before .pre .1),
+      omega (arith, e .to-is, e .same-length, f .to-is, f .same-length, g .to-is, g .same-length, line-long answerWord 0, line-long costWord (c .before .before .before .before .before .before .before .before .before .before .before .before .before .before .before .before .before .before .before .field .result), line-long arriveWord (c .before .before .before .before .before .before .before .before .before .before .before .before .before .before .before .before .arrival-after .result .0), c .before .before .before .before .before .before .before .before .before .before .before .before .before .before .before .before .before .before .before .before .before .before .before .before .pre .1),
     )
 
 same-length : tie.Need-same-length
@@ -62,7 +62,7 @@ same-length c = search needs
 returns : tie.Need-returns
 returns c =
     let a = c .before .before .before .before .before .before .before .before .before .before .before .before .before .before .before .before .before .before .before .before .before .before .before .before .before .before .before .args in
-    plan-said (theoryIn (a .net .now)) (queryOf (a .query)) (a .plan .now) (a .text .now) _ _ (c .before .before .before .before .before .before .before .before .before .before .before .before .before .before .before .before .before .before .before .before .before .before .field .result) (c .before .before .before .before .before .before .before .before .before .before .before .before .before .before .before .before .before .before .before .arrival-after .result) (c .before .before .before .before .before .before .before .before .before .before .before .before .before .before .before .before .before .before .before .before .before .field2 .result)
+    plan-said (theoryIn (a .net .now)) (queryOf (a .query)) (a .plan .now) (a .text .now) _ _ (c .before .before .before .before .before .before .before .before .before .before .before .before .before .before .before .before .before .before .before .before .before .before .field .result) (c .before .before .before .before .before .before .before .before .before .before .before .before .before .before .before .before .before .before .before .arrival-after .result .0) (c .before .before .before .before .before .before .before .before .before .before .before .before .before .before .before .before .before .before .before .before .before .field2 .result)
     (c .before .before .before .before .before .before .before .before .before .before .before .before .before .before .before .before .before .before .before .before .before .before .field .ensures) (c .before .before .before .before .before .before .before .before .before .before .before .before .before .before .before .before .before .before .before .before .before .field2 .ensures) (c .before .before .before .before .before .before .before .before .before .before .before .before .before .before .before .before .before .before .before .arrival-after .ensures)
     (adds-then (c .before .before .before .before .before .before .before .before .before .before .before .before .before .before .before .before .before .answer-line .ensures) (adds-then (c .before .before .before .before .before .before .before .before .before .before .before .before .line .ensures) (adds-then (c .before .before .before .before .before .before .before .line2 .ensures) (c .before .before .ride-lines .ensures))))
 

@@ -26,9 +26,9 @@ arrival-after-requires : tie.Need-arrival-after-requires
 arrival-after-requires c κs =
     (c .before .before .before .before .pre .0, ridden-less (c .before .before .before .before .args .net .now) (c .before .before .before .before .args .size) (c .before .before .before .before .args .plan .now) (queryOf (c .before .before .before .before .args .query)) (c .before .before .before .before .args .k + 1) _ (omega arith) (c .before .before .before .before .pre .1))
 
-sub-leg-line : tie.Need-sub-leg-line
-sub-leg-line c =
-    omega (arith, last-ride (c .before .before .before .before .before .before .args .net .now) (c .before .before .before .before .before .before .args .size) (c .before .before .before .before .before .before .args .plan .now) (queryOf (c .before .before .before .before .before .before .args .query)) (c .before .before .before .before .before .before .args .k + 1) (c .before .before .before .before .before .before .args .k) (omega arith) (c .before .before .before .before .before .before .pre .1) .after, c .before .arrival-after .ensures, c .before .before .pair .ensures .1)
+sub-wait : tie.Need-sub-wait
+sub-wait c =
+    omega (arith, last-ride (c .before .before .before .before .before .args .net .now) (c .before .before .before .before .before .args .size) (c .before .before .before .before .before .args .plan .now) (queryOf (c .before .before .before .before .before .args .query)) (c .before .before .before .before .before .args .k + 1) (c .before .before .before .before .before .args .k) (omega arith) (c .before .before .before .before .before .pre .1) .after, c .arrival-after .ensures, c .before .pair .ensures .1)
 
 leg-line-requires : tie.Need-leg-line-requires
 leg-line-requires c κs = search needs
@@ -44,7 +44,7 @@ ride-line-spec =
     add-place
     pair-requires
     arrival-after-requires
-    sub-leg-line
+    sub-wait
     leg-line-requires
     same-length
     returns)
