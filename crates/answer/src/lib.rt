@@ -4,7 +4,7 @@ ghost use Rattle.answer.specs.Numbers.{number_of, answer_number, answer_length};
 ghost use Rattle.answer.specs.Plans.{plan_number, plan_length};
 
 // Why a call refuses, in the order of the paper's table.
-#[derive(Drop)]
+#[derive(Clone, Copy)]
 pub enum Refusal {
     Short,
     Edition,
@@ -24,14 +24,14 @@ pub enum Refusal {
 }
 
 // What a call answers: done, with the length of what it wrote, or a refusal.
-#[derive(Drop)]
+#[derive(Clone, Copy)]
 pub enum Answer {
     Done(u32),
     Refused(Refusal),
 }
 
 // What the plan call and the sheet call answer: "no plan" is a refusal by its number, and writes a file all the same.
-#[derive(Drop)]
+#[derive(Clone, Copy)]
 pub enum PlanAnswer {
     Done(u32),
     NoPlan(u32),

@@ -5,7 +5,7 @@ ghost use Rattle.card.specs.Card.{Written, Kept, Tidy, Begun, Shows};
 use leg::{Cents, Minute};
 
 // What a card shows at a minute: the cents of the last slot that has begun, if one has.
-#[derive(Drop)]
+#[derive(Clone, Copy)]
 pub struct Shown {
     pub has: bool,
     pub price: Cents,

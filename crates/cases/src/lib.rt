@@ -5,14 +5,14 @@ ghost use Rattle.std.specs.Prelude.{◌≤◌, length};
 use terminal::Reply;
 
 // Where the next case begins, and whether this one came out as stored.
-#[derive(Drop)]
+#[derive(Clone, Copy)]
 pub struct Case {
     pub next: usize,
     pub right: bool,
 }
 
 // How many cases a file has, and how many of them came out as stored.
-#[derive(Drop)]
+#[derive(Clone, Copy)]
 pub struct Tally {
     pub cases: u32,
     pub right: u32,

@@ -24,11 +24,11 @@ use plan_reader::Plan;
 use source::Origin;
 
 // A sum of cents, which 32 bits might not hold.
-#[derive(Drop)]
+#[derive(Clone, Copy)]
 pub struct Total(pub u64);
 
 // Where a plan stands after some of its rides, when, and at what cost; `on` is false once a ride could not be boarded.
-#[derive(Drop)]
+#[derive(Clone, Copy)]
 pub struct State {
     pub on: bool,
     pub place: u32,

@@ -4,22 +4,22 @@ ghost use Rattle.leg.specs.Ranges.{last_minute, most_cents, most_bands, minute, 
 ghost use Rattle.leg.specs.Toll.{toll_at};
 
 // A minute of the day or a driving time in minutes: never to be added to cents.
-#[derive(Drop)]
+#[derive(Clone, Copy)]
 pub struct Minute(pub u32);
 
 // Cents of toll.
-#[derive(Drop)]
+#[derive(Clone, Copy)]
 pub struct Cents(pub u32);
 
 // From its start up to, but not including, the next band's start a leg costs this toll.
-#[derive(Drop)]
+#[derive(Clone, Copy)]
 pub struct Band {
     pub start: Minute,
     pub toll: Cents,
 }
 
 // A leg with its bands: the first `count` of the eight are the leg's, the others hold zeros.
-#[derive(Drop)]
+#[derive(Clone, Copy)]
 pub struct Leg {
     pub from: u32,
     pub to: u32,
@@ -28,19 +28,19 @@ pub struct Leg {
     pub count: usize,
 }
 
-#[derive(Drop)]
+#[derive(Clone, Copy)]
 pub enum MinuteFound {
     Within(Minute),
     Beyond,
 }
 
-#[derive(Drop)]
+#[derive(Clone, Copy)]
 pub enum CentsFound {
     Within(Cents),
     Beyond,
 }
 
-#[derive(Drop)]
+#[derive(Clone, Copy)]
 pub enum CountFound {
     Within(usize),
     Beyond,

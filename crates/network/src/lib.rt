@@ -11,14 +11,14 @@ use leg::{Band, Cents, CentsFound, CountFound, Leg, Minute, MinuteFound};
 use source::Origin;
 
 // A band and the place after it, or why there is none.
-#[derive(Drop)]
+#[derive(Clone, Copy)]
 pub enum BandFound {
     Refused(Refusal),
     Sound(Band, usize),
 }
 
 // The head of a leg: everything but its bands, and how many those are.
-#[derive(Drop)]
+#[derive(Clone, Copy)]
 pub struct Head {
     pub from: u32,
     pub to: u32,
@@ -26,20 +26,20 @@ pub struct Head {
     pub count: usize,
 }
 
-#[derive(Drop)]
+#[derive(Clone, Copy)]
 pub enum HeadFound {
     Refused(Refusal),
     Sound(Head, usize),
 }
 
-#[derive(Drop)]
+#[derive(Clone, Copy)]
 pub enum Verdict {
     Sound,
     Refused(Refusal),
 }
 
 // A leg and the place after it where the verdict is `Sound`, zeros where it is not.
-#[derive(Drop)]
+#[derive(Clone, Copy)]
 pub struct LegFound {
     pub verdict: Verdict,
     pub leg: Leg,
@@ -47,34 +47,34 @@ pub struct LegFound {
 }
 
 // A leg that was judged and not kept: how many bands it has and the place after it, or why it is refused.
-#[derive(Drop)]
+#[derive(Clone, Copy)]
 pub enum LegPassed {
     Refused(Refusal),
     Sound(usize, usize),
 }
 
 // The head of a network: how many places and how many legs.
-#[derive(Drop)]
+#[derive(Clone, Copy)]
 pub struct Top {
     pub places: u32,
     pub legs: usize,
 }
 
-#[derive(Drop)]
+#[derive(Clone, Copy)]
 pub enum TopFound {
     Refused(Refusal),
     Sound(Top, usize),
 }
 
 // How large a network is: its places, its legs, and the bands of all legs together.
-#[derive(Drop)]
+#[derive(Clone, Copy)]
 pub struct Size {
     pub places: u32,
     pub legs: usize,
     pub bands: usize,
 }
 
-#[derive(Drop)]
+#[derive(Clone, Copy)]
 pub enum NetworkFound {
     Refused(Refusal),
     Sound(Size),

@@ -6,7 +6,7 @@ ghost use Rattle.plan_file.specs.PlanFile.{InWidth, query_of, query_fields, head
 use leg::{Cents, Minute};
 
 // A query: from where to where, not before when, and when at the latest.
-#[derive(Drop)]
+#[derive(Clone, Copy)]
 pub struct Query {
     pub start: u32,
     pub end: u32,

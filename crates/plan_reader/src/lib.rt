@@ -6,7 +6,7 @@ use leg::{Cents, Minute};
 use plan_file::Query;
 
 // What a plan file says, but for its rides; zeros where it is not sound.
-#[derive(Drop)]
+#[derive(Clone, Copy)]
 pub struct Plan {
     pub sound: bool,
     pub verdict: u32,

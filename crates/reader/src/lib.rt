@@ -3,7 +3,7 @@ ghost use Rattle.std.specs.Prelude.{◌≡◌, ◌+◌, ◌*◌, ◌^◌, ◌≤
 ghost use Rattle.bits.specs.Field.{field};
 ghost use Rattle.reader.specs.File.{ends_at};
 
-#[derive(Drop)]
+#[derive(Clone, Copy)]
 pub struct Reader<'a> {
     pub file: &'a [u8],
     pub at: usize,
@@ -38,7 +38,7 @@ impl<'a> Reader<'a> {
 }
 
 // Two fields that stand one after the other.
-#[derive(Drop)]
+#[derive(Clone, Copy)]
 pub struct Two {
     pub first: u32,
     pub second: u32,

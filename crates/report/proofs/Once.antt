@@ -8,7 +8,6 @@ use lib.ListN.{length, drop}
 use Rattle.bits.specs.Field.{field}
 use Rattle.network.specs.Network.{of_file}
 use Rattle.plan.specs.Network.{Network, Query}
-use Rattle.plan.specs.Plan.{Ride}
 use Rattle.plan.proofs.Order.{named-once}
 use Rattle.tabled.specs.Judge.{Judged, refuse, serve, judged}
 use Rattle.report.specs.Report.{plan_text, Shows, shown, nothing, Prints, query_in, Whole, Reports}

@@ -1,14 +1,14 @@
 -- Rule (b) for a leg where it stands in the file is rule (b) for the leg which was found there. Assumes nothing.
-use Prim.Native.Nat.{ℕ, zero, suc, ◌+◌, ◌*◌, ◌≤◌, ◌<◌}
+use Prim.Native.Nat.{ℕ, zero, suc, ◌+◌, ◌<◌}
 use native.Mathlib.Omega.{arith}
-use mathlib.Core.Path.{◌≡◌, refl, sym, ◌∙◌, ap}
+use mathlib.Core.Path.{◌≡◌, sym, ◌∙◌, ap}
 use mathlib.Core.Bool.{Bool, true, false}
 use mathlib.Core.List.{List}
 use lib.ListN.{get_or}
 use Rattle.leg.specs.declared.Band.{Band}
 use Rattle.leg.specs.declared.Leg.{Leg}
 use Rattle.leg.specs.Ranges.{no_band}
-use Rattle.leg.specs.Toll.{toll_of_first, toll_at, either}
+use Rattle.leg.specs.Toll.{toll_of_first, toll_at}
 use Rattle.network.specs.InFile.{leg_at}
 use Rattle.network.proofs.InFile.{Same, bands-same}
 use Rattle.plan.specs.Sheet.{Step}

@@ -11,7 +11,7 @@ use card::Shown;
 use leg::{Cents, Minute};
 
 // A place in a list of steps: the bit of the next step, how many are left, its minute; and the cost of the last step passed, if there is one.
-#[derive(Drop)]
+#[derive(Clone, Copy)]
 pub struct Cursor {
     pub at: usize,
     pub left: usize,
@@ -21,7 +21,7 @@ pub struct Cursor {
 }
 
 // A place in a leg's bands: how many are passed, where the next starts, and the toll of the last that was passed.
-#[derive(Drop)]
+#[derive(Clone, Copy)]
 pub struct Tolls {
     pub passed: usize,
     pub next: Minute,

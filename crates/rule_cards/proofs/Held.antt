@@ -11,7 +11,6 @@ use borrow.Author.Tests.{le-leb}
 use lib.ListN.{length, get_or}
 use Rattle.bits.specs.Field.{field}
 use Rattle.bits.proofs.Fields.{field_below}
-use Rattle.leg.specs.declared.Leg.{Leg}
 use Rattle.leg.specs.declared.Band.{Band}
 use Rattle.leg.specs.Ranges.{no_band}
 use Rattle.leg.specs.Toll.{toll_of_first, toll_at}
@@ -20,12 +19,11 @@ use Rattle.plan.specs.Network.{Minute, Cents, Query}
 use Rattle.plan.specs.Sheet.{Step, or_else, value, Steps}
 use Rattle.sheet_file.specs.InPlace.{step_at, steps_at, place_at, count_at}
 use Rattle.rule_b.specs.Rule.{InOrder}
-use Rattle.network.specs.InFile.{bands_at, leg_at}
+use Rattle.network.specs.InFile.{leg_at}
 use Rattle.rule_b.specs.Cursor.{first_of, shown, Sorted}
 use Rattle.rule_b.proofs.Walks.{first-none, first_some, none_before, steps-sorted}
 use Rattle.network.proofs.InFile.{band-there}
-use Rattle.card.specs.declared.Shown.{Shown}
-use Rattle.card.specs.Card.{slot, never, Rising, Carded, Begun, Shows}
+use Rattle.card.specs.Card.{slot, never, Rising, Carded, Begun}
 use Rattle.rule_cards.specs.Cards.{Ready, HoldsSteps, HoldsTolls, StepAt}
 
 -- ---- any card

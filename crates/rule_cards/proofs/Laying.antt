@@ -7,7 +7,7 @@ use mathlib.Core.Logic.{inl, inr, ⊎_elim}
 use mathlib.Core.List.{List}
 use lib.ListN.{length, get_or, replicate, get_or-replicate, length-replicate}
 use Rattle.sheet_file.specs.InPlace.{count_at}
-use Rattle.card.specs.Card.{slot, never, Blank, Carded, Kept}
+use Rattle.card.specs.Card.{never, Blank, Carded, Kept}
 use Rattle.rule_cards.specs.Cards.{Laid, LaidOut}
 
 -- a card in front of the one that was written

@@ -1,13 +1,12 @@
 -- One leg by cards: the rule at the steps and the band starts on the cards is rule (b). Assumes nothing.
-use Prim.Native.Nat.{ℕ, ◌+◌, ◌*◌, ◌≤◌, ◌<◌}
+use Prim.Native.Nat.{ℕ, ◌+◌, ◌≤◌, ◌<◌}
 use native.Mathlib.Omega.{arith}
-use mathlib.Core.Path.{◌≡◌, refl, sym, ◌∙◌, subst}
+use mathlib.Core.Path.{◌≡◌, sym, subst}
 use mathlib.Core.Bool.{Bool, true, false}
 use mathlib.Core.List.{List}
-use lib.ListN.{length, get_or, replicate, get_or-replicate}
+use lib.ListN.{length, replicate, get_or-replicate}
 use Rattle.bits.specs.Field.{field}
 use Rattle.leg.specs.declared.Leg.{Leg}
-use Rattle.leg.specs.Ranges.{no_band}
 use Rattle.plan.specs.Network.{Minute, Query}
 use Rattle.plan.specs.Sheet.{Step, Steps}
 use Rattle.sheet_file.specs.InPlace.{place_at, count_at}

@@ -12,7 +12,7 @@ use leg::{Cents, Minute};
 const MOST_STEPS: usize = Minute::COUNT as usize;
 
 // A step, where it is sound.
-#[derive(Drop)]
+#[derive(Clone, Copy)]
 pub struct StepFound {
     pub sound: bool,
     pub minute: Minute,
@@ -20,14 +20,14 @@ pub struct StepFound {
 }
 
 // Whether a place's steps are sound, and the bit after them.
-#[derive(Drop)]
+#[derive(Clone, Copy)]
 pub struct PlaceFound {
     pub sound: bool,
     pub after: usize,
 }
 
 // Whether a sheet is sound, and the bit where each place's count of steps stands.
-#[derive(Drop)]
+#[derive(Clone, Copy)]
 pub struct SheetFound {
     pub sound: bool,
     pub index: [u32; 64],

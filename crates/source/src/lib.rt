@@ -4,14 +4,14 @@ ghost use Rattle.bits.specs.Field.{field};
 ghost use Rattle.source.specs.Source.{source_of, file_of, Whole, top_widths, head_widths, band_widths, Fetched, Listed, HeadFields, BandFields};
 
 // Which of the two slices that a call is lent holds the fields.
-#[derive(Drop)]
+#[derive(Clone, Copy)]
 pub enum Origin {
     File,
     Numbers,
 }
 
 // Up to four fields: the first `have` of them are there, the others count as 0. `after` is the place after the last that was asked for.
-#[derive(Drop)]
+#[derive(Clone, Copy)]
 pub struct Fields {
     pub have: usize,
     pub a: u32,

@@ -16,7 +16,7 @@ use leg::{Cents, Leg, Minute};
 use network::Size;
 
 // From where, and the first and last minute.
-#[derive(Drop)]
+#[derive(Clone, Copy)]
 pub struct Ask {
     pub start: u32,
     pub earliest: Minute,

@@ -11,14 +11,14 @@ use plan_file::Query;
 use source::Origin;
 
 // What 6, 7 and 8 come to.
-#[derive(Drop)]
+#[derive(Clone, Copy)]
 pub enum Judgement {
     Serve,
     Refuse(Refusal),
 }
 
 // What the tests and the table come to.
-#[derive(Drop)]
+#[derive(Clone, Copy)]
 pub enum Tabling {
     Refused(Refusal),
     Filled(Size),

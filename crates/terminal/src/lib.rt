@@ -10,7 +10,7 @@ ghost use Rattle.terminal.specs.Reply.{Replies, PlanReplies, Says};
 
 // What comes back: the paper's number, and the length of what was written.
 #[repr(C)]
-#[derive(Drop)]
+#[derive(Clone, Copy)]
 pub struct Reply {
     pub number: u32,
     pub length: u32,

@@ -11,7 +11,7 @@ use network::Size;
 use plan_file::Query;
 
 // A ride that was found: the leg, where it leaves from, and when.
-#[derive(Drop)]
+#[derive(Clone, Copy)]
 pub struct Hop {
     pub leg: u32,
     pub from: u32,

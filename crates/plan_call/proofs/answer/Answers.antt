@@ -1,0 +1,69 @@
+use Prim.Native.Nat.{ℕ, ◌+◌, ◌*◌, ◌/◌, ◌%◌}
+use lib.Seq.{length-take-le}
+use mathlib.Core.Path.{sym, ap, ◌∙◌}
+use Rattle.answer.specs.declared.PlanAnswer.{PlanAnswer}
+use Rattle.plan_file.specs.PlanFile.{query_of, none_file}
+use Rattle.tabled.proofs.Serving.{end-in}
+use Rattle.chart.specs.Net.{theory_in}
+use Rattle.plan_call.proofs.Answers.{no_room, room, none_right, arrival-in, ending, too_long, written}
+use native.Mathlib.Omega.{arith}
+use borrow.Author.Rules.{rules}
+use Rattle.plan_call.proofs.answer.Goals as goal
+
+pub returns-then-out-lt12 : goal.returns-then-out-lt12
+returns-then-out-lt12 c =
+    let a = c.args in
+    no_room (theory_in a.net.now) (query_of a.query) a.out.now (none_file (query_of a.query)) PlanAnswer.NoPlan
+    (none_right a.net.now a.size a.query a.cells.now c.requires (sym c.cell.ensures ∙ c.if-cell.true))
+    c.if-out-lt12.true
+
+pub returns-then-cell : goal.returns-then-cell
+returns-then-cell c =
+    let a = c.args in
+    room (theory_in a.net.now) (query_of a.query) a.out.now c.write_none.new.file (none_file (query_of a.query)) PlanAnswer.NoPlan
+    (none_right a.net.now a.size a.query a.cells.now c.requires (sym c.cell.ensures ∙ c.if-cell.true))
+    c.write_none.ensures 12 (c.write_none.auto.file ∙ length-take-le 12 a.out.now c.if-out-lt12.false) c.if-out-lt12.false
+
+pub returns-then-out-bytes : goal.returns-then-out-bytes
+returns-then-out-bytes c =
+    let a = c.args in
+    too_long a.net.now a.size a.query a.cells.now c.requires (λ e. c.if-cell.false (c.cell.ensures ∙ e)) _ c.first-arrival.ensures
+    c.cell-legs.result c.cell-legs.ensures a.out.now c.if-out-bytes.true
+
+pub returns : goal.returns
+returns c =
+    let a = c.args in
+    let n = (96 + 21 * (c.cell-legs.result % 64)) / 8 in
+    written (theory_in a.net.now) (query_of a.query) a.out.now c.write_plan.new.file c.write_plan.ensures n
+    (c.write_plan.auto.file ∙ length-take-le n a.out.now c.if-out-bytes.false) c.if-out-bytes.false
+
+pub cell-requires : goal.cell-requires
+cell-requires c = let a = c.args in end-in a.net.now a.size a.query a.cells.now c.requires
+
+pub slice_bounds-write_none-end-then-cell : goal.slice_bounds-write_none-end-then-cell
+slice_bounds-write_none-end-then-cell c = sym (length-take-le 12 c.args.out.now c.if-out-lt12.false)
+
+pub write_none-requires : goal.write_none-requires
+write_none-requires c =
+    (search rules, length-take-le 12 c.args.out.now c.if-out-lt12.false)
+
+pub first-arrival-requires : goal.first-arrival-requires
+first-arrival-requires c = let a = c.args in (omega arith, end-in a.net.now a.size a.query a.cells.now c.requires)
+
+pub cell-legs-requires : goal.cell-legs-requires
+cell-legs-requires c =
+    let a = c.args in
+    arrival-in a.net.now a.size a.query a.cells.now c.requires (λ e. c.if-cell.false (c.cell.ensures ∙ e)) _ c.first-arrival.ensures
+
+pub slice_bounds-write_plan-end-2 : goal.slice_bounds-write_plan-end-2
+slice_bounds-write_plan-end-2 c = sym (length-take-le _ c.args.out.now c.if-out-bytes.false)
+
+pub write_plan-requires : goal.write_plan-requires
+write_plan-requires c =
+    let a = c.args in
+    let long = length-take-le ((96 + 21 * (c.cell-legs.result % 64)) / 8) a.out.now c.if-out-bytes.false in
+    let legs = ap (λ (x : ℕ). x % 64) c.cell-legs.ensures in (
+      ending a.net.now a.size a.query a.cells.now c.requires (λ e. c.if-cell.false (c.cell.ensures ∙ e)) _ c.first-arrival.ensures
+          _ c.chart-chart.ensures,
+      long ∙ omega (arith, legs),
+    )

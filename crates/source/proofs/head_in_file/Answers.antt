@@ -1,0 +1,14 @@
+use Prim.Native.Nat.{◌+◌, ◌*◌}
+use native.Mathlib.Omega.{arith}
+use lib.ListN.{length}
+use borrow.Author.Tests.{le-leb}
+use Rattle.source.proofs.Laws.{whole_four}
+use Rattle.source.proofs.Fetch.{file-head}
+use Rattle.source.proofs.head_in_file.Goals as goal
+
+pub returns : goal.returns
+returns c =
+    let a = c.args in
+    let end = 8 * length a.net.now in
+    let all = whole_four end a.at 6 12 24 28 (omega arith, omega arith, omega arith) (le-leb (a.at + 28) end (omega arith)) in
+    file-head a.net.now a.at c.field-x.result 4 all c.field-x.ensures

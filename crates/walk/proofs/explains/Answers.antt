@@ -1,0 +1,16 @@
+use Rattle.leg.specs.Toll.{toll_at}
+use Rattle.plan.specs.Table.{cell_at}
+use Rattle.plan_file.specs.PlanFile.{query_of}
+use Prim.Native.Nat.{◌-◌}
+use native.Mathlib.Omega.{arith}
+use mathlib.Core.Path.{◌≡◌, ap, ◌∙◌}
+use Rattle.walk.proofs.explains.Goals as goal
+
+pub returns-else-source-toll : goal.returns-else-source-toll
+returns-else-source-toll c = λ d f.
+    let a = c.args in
+    let q = query_of a.query in
+    let same : a.arrival.0 - a.leg.time.0 ≡ d = omega (arith, f.arrives) in
+    let source = c.cell-source.ensures ∙ ap (cell_at q a.cells.now a.leg.from) same in
+    let toll = c.toll_at-toll.ensures ∙ ap (toll_at a.leg) same in
+    c.if-source-toll.false (omega (arith, source, toll, c.cell-goal.ensures, f.explains))
