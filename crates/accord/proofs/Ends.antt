@@ -1,5 +1,5 @@
 -- OUR SHEET GOES BY THE START AND THE WINDOW ALONE, so one sheet serves every end. Assumes nothing.
-use Prim.Native.Nat.{ℕ, ◌≤◌}
+use Prim.Native.Nat.{ℕ}
 use native.Mathlib.Omega.{arith}
 use mathlib.Core.Path.{◌≡◌, refl, sym, ◌∙◌}
 use mathlib.Core.Option.{Option, none, some}

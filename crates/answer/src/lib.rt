@@ -1,4 +1,6 @@
 // The answers of document 01: why a call refuses, and the paper's number for each reason.
+#![tactic(auto)]
+
 ghost use Rattle.std.specs.Prelude.{◌≡◌};
 ghost use Rattle.answer.specs.Numbers.{number_of, answer_number, answer_length};
 ghost use Rattle.answer.specs.Plans.{plan_number, plan_length};

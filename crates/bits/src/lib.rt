@@ -1,4 +1,6 @@
 // One field of 1 to 32 bits in lent bytes, most significant bit first, by whole bytes.
+#![tactic(auto)]
+
 ghost use Rattle.std.specs.Prelude.{◌≡◌, ◌+◌, ◌*◌, ◌/◌, ◌%◌, ◌^◌, ◌≤◌, ◌<◌, length, replicate};
 ghost use Rattle.bits.specs.Field.{field, Put};
 ghost use Rattle.bits.specs.Word.{spliced, Stored};

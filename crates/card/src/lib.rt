@@ -1,4 +1,6 @@
 // A card: a few slots that hold the steps of a place, or the bands of a leg, so that what it shows at a minute is found by counting.
+#![tactic(auto)]
+
 ghost use Rattle.std.specs.Prelude.{◌≡◌, ◌+◌, ◌*◌, ◌≤◌, ◌<◌, length};
 ghost use Rattle.card.specs.Card.{Written, Kept, Tidy, Begun, Shows};
 

@@ -1,4 +1,6 @@
 // Where each leg of a sound network file stands, so that a leg is decoded when it is wanted and nothing is copied.
+#![tactic(auto)]
+
 ghost use Rattle.std.specs.Prelude.{◌≡◌, ◌≤◌};
 ghost use Rattle.source.specs.Source.{file_of};
 ghost use Rattle.network.specs.declared.NetworkFound.{NetworkFound};

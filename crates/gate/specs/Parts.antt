@@ -1,5 +1,5 @@
 -- What the gate's parts decide.
-use Rattle.std.specs.Prelude.{ℕ, ◌+◌, ◌*◌, ◌≤◌, ◌<◌, ◌≡◌, Bool, true, false, List, length, get_or}
+use Rattle.std.specs.Prelude.{ℕ, ◌+◌, ◌≤◌, ◌<◌, ◌≡◌, true, List, get_or}
 use Rattle.std.proofs.Math.Option.{some}
 use Rattle.leg.specs.declared.Leg.{Leg}
 use Rattle.network.specs.Reading.{Found}
@@ -9,7 +9,7 @@ use Rattle.network.specs.declared.Size.{Size}
 use Rattle.network.specs.Answers.{network_found}
 use Rattle.chart.specs.Chart.{Chart}
 use Rattle.chart.specs.Net.{net_in}
-use Rattle.plan.specs.Network.{Minute, Cents, Network, Query}
+use Rattle.plan.specs.Network.{Minute, Network, Query}
 use Rattle.plan.specs.Plan.{Ride, arrives}
 use Rattle.plan.specs.Legs.{no_leg}
 use Rattle.plan.specs.Sheet.{Step, value}

@@ -1,4 +1,6 @@
 // The gate: a plan and a sheet that anybody may have written are judged against a network.
+#![tactic(auto)]
+
 ghost use Rattle.std.specs.Prelude.{◌≡◌, ◌+◌, ◌*◌, ◌≤◌, ◌<◌, false, length};
 ghost use Rattle.network.specs.declared.NetworkFound.{NetworkFound};
 ghost use Rattle.network.specs.Network.{of_file};

@@ -1,4 +1,6 @@
 // The quantities of document 01 (a minute, cents) and a leg with its bands: what each may hold, and a leg's toll.
+#![tactic(auto)]
+
 ghost use Rattle.std.specs.Prelude.{◌≡◌, ◌≤◌};
 ghost use Rattle.leg.specs.Ranges.{last_minute, most_cents, most_bands, minute, minute_of, cents_of, count_of, band_of, no_band, no_bands, leg_of};
 ghost use Rattle.leg.specs.Toll.{toll_at};

@@ -13,7 +13,7 @@ use Rattle.source.specs.Source.{Source, both}
 use Rattle.source.proofs.Laws.{both_true}
 use Rattle.network.specs.declared.Head.{Head}
 use Rattle.network.specs.declared.Top.{Top}
-use Rattle.network.specs.Reading.{Found, refused, found, next, pick, field, end}
+use Rattle.network.specs.Reading.{Found, refused, found, next, pick, end}
 use Rattle.network.specs.Network.{Form, follows, band, head, top}
 
 module _ {B : Type 0} (b : B) (end : ℕ) where

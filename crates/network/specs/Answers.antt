@@ -1,6 +1,5 @@
 -- What the judging functions return for what a reading comes to.
 use Rattle.std.specs.Prelude.{ℕ, ◌+◌, List, [], ◌∷◌, length}
-use Rattle.answer.specs.declared.Refusal.{Refusal}
 use Rattle.leg.specs.declared.Band.{Band}
 use Rattle.leg.specs.declared.Leg.{Leg}
 use Rattle.leg.specs.Ranges.{minute}

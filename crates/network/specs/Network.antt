@@ -1,6 +1,5 @@
 -- Document 01, "Files" and "Networks, plans, costs": the network that a file or a list of numbers stands for, or why it stands for none.
-use Rattle.std.specs.Prelude.{ℕ, zero, suc, ◌+◌, Bool, true, false, List, [], ◌∷◌, ◌++◌, leb, ltb, eqb, set}
-use Rattle.answer.specs.declared.Refusal.{Refusal}
+use Rattle.std.specs.Prelude.{ℕ, zero, suc, ◌+◌, Bool, List, [], ◌∷◌, ◌++◌, leb, ltb, eqb, set}
 use Rattle.answer.specs.declared.Refusal.TheVariants.{Edition, Range, Order}
 use Rattle.leg.specs.declared.Band.{Band}
 use Rattle.leg.specs.declared.Leg.{Leg}

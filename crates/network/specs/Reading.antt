@@ -1,5 +1,5 @@
 -- Reading fields one after another, as document 01 orders the faults: at one field short, then its range, then 4.
-use Rattle.std.specs.Prelude.{ℕ, zero, suc, ◌+◌, ◌-◌, Bool, true, false, leb, eqb}
+use Rattle.std.specs.Prelude.{ℕ, Bool, true, false}
 use Rattle.answer.specs.declared.Refusal.{Refusal}
 use Rattle.answer.specs.declared.Refusal.TheVariants.{Short, Tail}
 use Rattle.source.specs.Source.{Source}

@@ -1,4 +1,6 @@
 // What a network file or a list of numbers stands for: judged field by field, in document 01's order.
+#![tactic(auto)]
+
 ghost use Rattle.std.specs.Prelude.{◌≡◌, ◌≤◌};
 ghost use Rattle.leg.specs.Ranges.{last_minute};
 ghost use Rattle.source.specs.Source.{source_of};

@@ -1,4 +1,6 @@
 // The plan call: the table filled, the walk back, and the plan file.
+#![tactic(auto)]
+
 ghost use Rattle.plan_file.specs.PlanFile.{query_of};
 ghost use Rattle.tabled.specs.Comes.{asking};
 ghost use Rattle.tabled.specs.Tabled.{Tabled};

@@ -1,4 +1,6 @@
 // The plan file: its fields are put straight into lent bytes, the head first and the rides in any order.
+#![tactic(auto)]
+
 ghost use Rattle.std.specs.Prelude.{◌≡◌, ◌+◌, ◌*◌, ◌≤◌, ◌<◌, length};
 ghost use Rattle.plan_file.specs.Puts.{Puts};
 ghost use Rattle.plan_file.specs.PlanFile.{InWidth, query_of, query_fields, head_fields, ride_fields, ride_of};

@@ -1,5 +1,5 @@
 -- A plan file where it stands: what a reading in place goes by.
-use Rattle.std.specs.Prelude.{ℕ, zero, suc, ◌+◌, ◌*◌, ◌≡◌, Bool, true, false, List, [], ◌∷◌, length}
+use Rattle.std.specs.Prelude.{ℕ, zero, suc, ◌+◌, ◌*◌, ◌≡◌, Bool, true, false, List, [], ◌∷◌}
 use Rattle.bits.specs.Field.{field}
 use Rattle.plan.specs.Plan.{Ride}
 use Rattle.plan_file.specs.PlanFile.{PlanFile, FileOf, Allowed, most_legs, ride_of, query_of}

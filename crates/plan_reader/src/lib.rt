@@ -1,4 +1,6 @@
 // A plan file, judged and read in place.
+#![tactic(auto)]
+
 ghost use Rattle.std.specs.Prelude.{◌≡◌, false, ◌≤◌, length};
 ghost use Rattle.plan_reader.specs.InPlace.{Told, Headed};
 

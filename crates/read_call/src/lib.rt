@@ -1,4 +1,6 @@
 // The read call: a network file's fields as a list of numbers, edition first and in file order.
+#![tactic(auto)]
+
 ghost use Rattle.std.specs.Prelude.{◌≡◌, ◌+◌, ◌*◌, ◌≤◌, ◌<◌, [], ◌∷◌, length};
 ghost use Rattle.std.proofs.lemmas.List.Edits.{sets};
 ghost use Rattle.network.specs.declared.NetworkFound.{NetworkFound};

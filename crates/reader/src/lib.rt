@@ -1,4 +1,6 @@
 // A bit reader: a lent file and the bit at which it reads. Fields are taken one after another straight from the lent bytes.
+#![tactic(auto)]
+
 ghost use Rattle.std.specs.Prelude.{◌≡◌, ◌+◌, ◌*◌, ◌^◌, ◌≤◌, ◌<◌, leb, length};
 ghost use Rattle.bits.specs.Field.{field};
 ghost use Rattle.reader.specs.File.{ends_at};

@@ -1,5 +1,5 @@
 -- THE TEXT that `haul` prints, on every input. Document 01, "The program".
-use Rattle.std.specs.Prelude.{ℕ, ◌+◌, ◌-◌, ◌≡◌, Bool, true, false, cond, List, [], ◌∷◌, ◌++◌, ltb, eqb, length, drop}
+use Rattle.std.specs.Prelude.{ℕ, ◌-◌, ◌≡◌, Bool, true, false, cond, List, [], ◌∷◌, ◌++◌, ltb, eqb, length, drop}
 use Rattle.answer.specs.Numbers.{number_of}
 use Rattle.bits.specs.Field.{field}
 use Rattle.network.specs.Network.{of_file}

@@ -5,7 +5,6 @@ use Rattle.network.specs.declared.NetworkFound.{NetworkFound}
 use Rattle.network.specs.declared.Size.{Size}
 use Rattle.network.specs.Network.{of_file}
 use Rattle.network.specs.Answers.{network_found}
-use Rattle.chart.specs.Chart.{Chart}
 use Rattle.chart.specs.Net.{theory_in}
 use Rattle.plan.specs.Network.{Query}
 use Rattle.plan.specs.Plan.{Ride, Runs}

@@ -1,4 +1,6 @@
 // What `haul` prints: input bytes to text. A query, then a network; the answer's number, and the plan where there is one.
+#![tactic(auto)]
+
 ghost use Rattle.std.specs.Prelude.{◌≡◌, ◌+◌, ◌-◌, ◌*◌, ◌≤◌, ◌<◌, ◌++◌, length, take};
 ghost use Rattle.bits.specs.Field.{field};
 ghost use Rattle.network.specs.Network.{of_file};

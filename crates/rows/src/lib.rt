@@ -1,4 +1,6 @@
 // One row of the minute table: a stretch of the lent cells, lowered where it stands. Columns are minutes after earliest.
+#![tactic(auto)]
+
 ghost use Rattle.std.specs.Prelude.{◌≡◌, false, ◌+◌, ◌*◌, ◌-◌, ◌≤◌, ◌<◌, min, length, get_or, replicate};
 ghost use Rattle.rows.specs.Row.{Passed, Search, Lower, Settle};
 ghost use Rattle.rows.specs.Whole.{SettleRow, LowerRow};

@@ -2,7 +2,6 @@
 use Rattle.std.specs.Prelude.{ℕ, ◌+◌, ◌*◌, ◌≤◌, ◌<◌, ◌≡◌, Bool, true, false, ◌⊎◌, List, [], ◌∷◌, ltb, length, get_or}
 use Rattle.std.proofs.Math.Option.{Option, none, some}
 use Rattle.leg.specs.declared.Leg.{Leg}
-use Rattle.leg.specs.declared.Band.{Band}
 use Rattle.leg.specs.Ranges.{no_band}
 use Rattle.leg.specs.Toll.{toll_of_first, either}
 use Rattle.plan.specs.Network.{Minute, Cents, Query}

@@ -1,6 +1,6 @@
 -- Rule (b) for one leg, over the steps of the two places that it joins.
 use Rattle.std.specs.Prelude.{ℕ, ◌+◌, ◌≤◌, ◌<◌, ◌≡◌, Bool, true, false, List, get_or}
-use Rattle.std.proofs.Math.Option.{Option, none, some}
+use Rattle.std.proofs.Math.Option.{some}
 use Rattle.leg.specs.declared.Leg.{Leg}
 use Rattle.leg.specs.Ranges.{no_band}
 use Rattle.leg.specs.Toll.{toll_at}

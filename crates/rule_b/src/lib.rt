@@ -1,4 +1,6 @@
 // Rule (b) for one leg: its steps and its bands are walked once, forward in time, where they stand in the two files.
+#![tactic(auto)]
+
 ghost use Rattle.std.specs.Prelude.{◌≡◌, ◌+◌, ◌*◌, ◌≤◌, ◌<◌, length};
 ghost use Rattle.plan.specs.Sheet.{value};
 ghost use Rattle.sheet_file.specs.Window.{window};

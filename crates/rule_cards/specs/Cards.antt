@@ -1,13 +1,13 @@
 -- Cards that hold the steps of two places and the bands of the leg between them.
 use Rattle.std.specs.Prelude.{ℕ, ◌+◌, ◌*◌, ◌≤◌, ◌<◌, ◌≡◌, Bool, ◌⊎◌, List, [], ◌∷◌, length, get_or}
-use Rattle.std.proofs.Math.Option.{Option, some}
+use Rattle.std.proofs.Math.Option.{some}
 use Rattle.leg.specs.declared.Leg.{Leg}
 use Rattle.leg.specs.Toll.{toll_at}
-use Rattle.plan.specs.Network.{Minute, Cents, Query}
+use Rattle.plan.specs.Network.{Minute, Query}
 use Rattle.plan.specs.Sheet.{Step, value, Steps}
 use Rattle.sheet_file.specs.InPlace.{count_at}
 use Rattle.rule_b.specs.Rule.{Is, RuleAt, RuleB}
-use Rattle.rule_b.specs.Cursor.{shown, Covers}
+use Rattle.rule_b.specs.Cursor.{shown}
 use Rattle.card.specs.declared.Shown.{Shown}
 use Rattle.card.specs.Card.{slot, never, Carded, Tidy, Shows}
 

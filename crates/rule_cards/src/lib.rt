@@ -1,4 +1,6 @@
 // Rule (b) for one leg by cards: where both its places have few steps, their values are found by counting; else the steps are walked.
+#![tactic(auto)]
+
 ghost use Rattle.std.specs.Prelude.{◌+◌, ◌*◌, ◌≤◌, ◌<◌, ◌≡◌, length, replicate};
 ghost use Rattle.plan.specs.Sheet.{AtMost};
 ghost use Rattle.rule_b.specs.Rule.{Is, RuleB, InOrder};

@@ -1,4 +1,6 @@
 // The sheet call: the table filled as for the plan call, and then the least costs themselves as a sheet file.
+#![tactic(auto)]
+
 ghost use Rattle.std.specs.Prelude.{◌≡◌, List, ℕ, ◌+◌, ◌*◌, ◌≤◌, ◌<◌, length};
 ghost use Rattle.bits.specs.Packed.{bits_of};
 ghost use Rattle.plan_file.specs.PlanFile.{query_of};

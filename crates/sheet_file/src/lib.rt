@@ -1,4 +1,6 @@
 // A sheet file, judged in the order of its fields: sound or not, and where each place's steps stand.
+#![tactic(auto)]
+
 ghost use Rattle.std.specs.Prelude.{◌≡◌, false, ◌+◌, ◌*◌, ◌≤◌};
 ghost use Rattle.leg.specs.Ranges.{minute, cents};
 ghost use Rattle.source.specs.Source.{file_of};

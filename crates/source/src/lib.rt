@@ -1,4 +1,6 @@
 // Fields from a file or from a list of numbers, several at once: one load for a leg's four fields, one for a band's two.
+#![tactic(auto)]
+
 ghost use Rattle.std.specs.Prelude.{◌≡◌, [], ◌∷◌, ◌+◌, ◌-◌, ◌*◌, ◌≤◌, length, get_or};
 ghost use Rattle.bits.specs.Field.{field};
 ghost use Rattle.source.specs.Source.{source_of, file_of, Whole, top_widths, head_widths, band_widths, Fetched, Listed, HeadFields, BandFields};

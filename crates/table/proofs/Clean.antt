@@ -9,7 +9,7 @@ use lib.ListN.{length, set, replicate, length-replicate, get_or-replicate, lengt
 use lib.Seq.{get_or-set_same, get_or-set_other}
 use borrow.Rule.Slice.PartMut.{put_mid}
 use Rattle.plan.specs.Network.{Minute, Network, InRange, Query, Askable}
-use Rattle.plan.specs.Plan.{Ride, place, Runs, Stands}
+use Rattle.plan.specs.Plan.{Ride, Runs, Stands}
 use Rattle.plan.specs.Table.{no_plan, weight, Cell, width, cell_at, MinuteTable}
 use Rattle.plan.proofs.Cells.{Attained, attained-start}
 use Rattle.plan.proofs.Exact.{ObeysCells, AttainedCells, exact}

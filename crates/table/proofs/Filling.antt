@@ -10,7 +10,6 @@ use Rattle.plan.specs.Table.{no_plan, MinuteTable, cell_at}
 use Rattle.leg.specs.declared.Minute.{Minute}
 use Rattle.network.specs.declared.Size.{Size}
 use Rattle.network.specs.Network.{Network}
-use Rattle.rows.specs.Row.{at}
 use Rattle.rows.proofs.Wholes.{row-length}
 use Rattle.chart.specs.Net.{net_in, theory, theory_in}
 use Rattle.chart.proofs.Net.{net-is, places-are, few_places, ranges}

@@ -1,4 +1,6 @@
 // What the plan call and the sheet call have in common: the tests 1 to 8, then the filled table.
+#![tactic(auto)]
+
 ghost use Rattle.std.specs.Prelude.{◌≡◌, ◌*◌, ◌≤◌};
 ghost use Rattle.plan_file.specs.PlanFile.{query_of};
 ghost use Rattle.tabled.specs.Judge.{judgement};

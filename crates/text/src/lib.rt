@@ -1,4 +1,6 @@
 // Text in lent bytes, one piece after another: words, and numbers in decimal.
+#![tactic(auto)]
+
 ghost use Rattle.std.specs.Prelude.{◌+◌, ◌≤◌, ◌++◌, length};
 ghost use Rattle.text.specs.Text.{Adds, decimal, decimal_of, item, line};
 

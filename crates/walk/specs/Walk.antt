@@ -9,7 +9,7 @@ use Rattle.source.specs.Source.{file_of}
 use Rattle.network.specs.Network.{edition1, leg, of_file}
 use Rattle.network.specs.Answers.{leg_found, network_found}
 use Rattle.plan.specs.Network.{Minute, Network, Query, Askable, Within}
-use Rattle.plan.specs.Plan.{Ride, cost}
+use Rattle.plan.specs.Plan.{Ride}
 use Rattle.plan.specs.Tie.{Named}
 use Rattle.plan.specs.Table.{no_plan, width, cell_at, MinuteTable}
 use Rattle.plan.proofs.Walk.{Fits, Best, FirstAt}

@@ -1,4 +1,6 @@
 // The walk back: from a filled table the named plan is found ride by ride from the end, and put into the plan file as it is found.
+#![tactic(auto)]
+
 ghost use Rattle.std.specs.Prelude.{◌≡◌, ◌≢◌, ◌+◌, ◌*◌, ◌/◌, ◌%◌, ◌≤◌, ◌<◌, length};
 ghost use Rattle.plan.specs.Table.{cell_at};
 ghost use Rattle.plan_file.specs.PlanFile.{InWidth, query_of, plan_bytes, none_file, FileOf};

@@ -1,4 +1,6 @@
 // The write call of document 01: a list of numbers is judged as a network, and its file put into lent bytes.
+#![tactic(auto)]
+
 ghost use Rattle.std.specs.Prelude.{◌≡◌, ℕ, ◌+◌, ◌*◌, ◌≤◌, length};
 ghost use Rattle.network.specs.Network.{edition1};
 ghost use Rattle.network.specs.Fields.{head_fields, bands_fields, leg_fields};

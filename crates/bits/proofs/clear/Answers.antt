@@ -1,5 +1,4 @@
 -- `bits::clear`: the bytes passed are zero, and the others are as they were.
-use Prim.Native.Nat.{◌-◌}
 use native.Mathlib.Omega.{arith}
 use mathlib.Core.Path.{◌≡◌, ◌∙◌}
 use mathlib.Core.List.{append-nil}

@@ -1,5 +1,5 @@
 -- `bits::gather`: the number so far is the field of the bytes passed.
-use Prim.Native.Nat.{◌+◌, ◌-◌, ◌*◌}
+use Prim.Native.Nat.{◌+◌, ◌*◌}
 use mathlib.Core.Path.{◌≡◌, sym}
 use native.Mathlib.Omega.{arith}
 use Rattle.bits.proofs.Fields.{field-none}

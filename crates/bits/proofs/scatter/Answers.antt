@@ -1,5 +1,4 @@
 -- `bits::scatter`: the bytes passed hold the high bytes of the number.
-use Prim.Native.Nat.{◌-◌}
 use native.Mathlib.Omega.{arith}
 use mathlib.Core.Path.{◌≡◌}
 use Rattle.bits.proofs.Stores.{store-start, store_step, store-all}

@@ -40,12 +40,12 @@ returns-then-ends c =
     let r = c.head-read in
     let d = r.ensures in
     let price : r.result.verdict ≡ 0 → r.result.cost.0 ≡ 0 = λ z. elim c.if-read-eq0.branch [
-        then-read-eq0+else-read-ne0+else-legs-ne0 w ↦ w.if-read-ne0.false
-        | else-read-eq0 w ↦ absurd (w.if-read-eq0.false z)
+      | then-read-eq0+else-read-ne0+else-legs-ne0 w ↦ w.if-read-ne0.false
+      | else-read-eq0 w ↦ absurd (w.if-read-eq0.false z)
     ] in
     let legs : r.result.verdict ≡ 0 → r.result.legs ≡ 0 = λ z. elim c.if-read-eq0.branch [
-        then-read-eq0+else-read-ne0+else-legs-ne0 w ↦ w.if-legs-ne0.false
-        | else-read-eq0 w ↦ absurd (w.if-read-eq0.false z)
+      | then-read-eq0+else-read-ne0+else-legs-ne0 w ↦ w.if-legs-ne0.false
+      | else-read-eq0 w ↦ absurd (w.if-read-eq0.false z)
     ] in
     told-yes s r.result d
     (says_here s (sym c.field-edition.ensures ∙ c.if-edition-ne-EDITION.false) (omega (arith, d.legs, c.if-legs-gt-MOST_LEGS.false))

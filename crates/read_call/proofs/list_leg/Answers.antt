@@ -1,5 +1,5 @@
 -- `read_call::list_leg`: the head's numbers, then those of the bands passed.
-use Prim.Native.Nat.{ℕ, ◌+◌, ◌-◌, ◌*◌, ◌%◌}
+use Prim.Native.Nat.{ℕ, ◌+◌, ◌*◌, ◌%◌}
 use native.Mathlib.Omega.{arith}
 use mathlib.Core.Path.{◌≡◌, refl, sym, ◌∙◌, ap}
 use mathlib.Core.List.{List}

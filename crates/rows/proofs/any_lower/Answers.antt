@@ -1,9 +1,8 @@
 -- `rows::any_lower`: as long as none was lower, every column passed was not.
 use Rattle.rows.proofs.Steps.{search-more}
-use Prim.Native.Nat.{◌-◌}
 use native.Mathlib.Omega.{arith}
 use mathlib.Core.Path.{◌≡◌, sym, ◌∙◌}
-use mathlib.Core.Bool.{false, true≢false}
+use mathlib.Core.Bool.{true≢false}
 use Rattle.rows.proofs.any_lower.Goals as goal
 use Rattle.rows.proofs.any_lower.Goals.{then-may_lower, else-may_lower}
 
@@ -23,8 +22,8 @@ loop-k-preserved c =
       l.invariant.4,
       λ e.
           elim c.if-may_lower.branch [
-              then-may_lower w ↦ absurd (true≢false (sym w.any-is ∙ e))
-              | else-may_lower w ↦ search-more a.part.now a.row.now a.from l.k a.time a.add (l.invariant.5 (sym w.any-is ∙ e)) (c.may_lower.ensures w.if-may_lower.false)
+            | then-may_lower w ↦ absurd (true≢false (sym w.any-is ∙ e))
+            | else-may_lower w ↦ search-more a.part.now a.row.now a.from l.k a.time a.add (l.invariant.5 (sym w.any-is ∙ e)) (c.may_lower.ensures w.if-may_lower.false)
           ],
     )
 

@@ -1,6 +1,5 @@
 -- `rows::first_lower`: stretches without a lower column are passed whole; in the first that has one the column is found.
 use Rattle.rows.proofs.Steps.{passed-stretch, search-from}
-use Prim.Native.Nat.{◌-◌}
 use native.Mathlib.Omega.{arith}
 use Rattle.rows.proofs.first_lower.Goals as goal
 

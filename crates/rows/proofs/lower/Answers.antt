@@ -1,6 +1,5 @@
 -- `rows::lower`: the rides from the columns passed are done.
 use Rattle.rows.proofs.Steps.{lower-none, lower-more}
-use Prim.Native.Nat.{◌-◌}
 use native.Mathlib.Omega.{arith}
 use mathlib.Core.Path.{◌≡◌}
 use Rattle.rows.proofs.lower.Goals as goal

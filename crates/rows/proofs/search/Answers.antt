@@ -1,6 +1,5 @@
 -- `rows::search`: no ride from a column passed arrives below what stands there.
 use Rattle.rows.proofs.Steps.{search-more}
-use Prim.Native.Nat.{◌-◌}
 use native.Mathlib.Omega.{arith}
 use Rattle.rows.proofs.search.Goals as goal
 

@@ -1,6 +1,6 @@
 -- `rows::settle`: the columns passed are settled and copied, and `best` is the last of them.
 use Rattle.rows.proofs.Steps.{settle-none, settle-more, settle-best}
-use Prim.Native.Nat.{◌-◌, ◌<◌}
+use Prim.Native.Nat.{◌<◌}
 use native.Mathlib.Omega.{arith}
 use mathlib.Core.Path.{◌≡◌, refl}
 use lib.ListN.{length, length-set}

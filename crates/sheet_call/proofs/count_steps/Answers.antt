@@ -1,4 +1,3 @@
-use Prim.Native.Nat.{◌-◌}
 use native.Mathlib.Omega.{arith}
 use Rattle.sheet_call.proofs.Turns.{counting-none, counting-lower, counting-same, counting-done}
 use Rattle.sheet_call.proofs.count_steps.Goals.{then-cost-was, else-cost-was}
@@ -15,8 +14,8 @@ loop-k-preserved c =
     let l = c.loop-k in
     let row = c.args.row.now in
     elim c.if-cost-was.branch [
-        then-cost-was w ↦ rw (w.was-is, w.count-is) (counting-lower row l.was l.count l.k l.invariant c.loop-k-test.true _ (omega arith) w.if-cost-was.true)
-        | else-cost-was w ↦ rw (w.was-is, w.count-is) (counting-same row l.was l.count l.k l.invariant c.loop-k-test.true _ (omega arith) w.if-cost-was.false)
+      | then-cost-was w ↦ rw (w.was-is, w.count-is) (counting-lower row l.was l.count l.k l.invariant c.loop-k-test.true _ (omega arith) w.if-cost-was.true)
+      | else-cost-was w ↦ rw (w.was-is, w.count-is) (counting-same row l.was l.count l.k l.invariant c.loop-k-test.true _ (omega arith) w.if-cost-was.false)
     ]
 
 pub returns : goal.returns

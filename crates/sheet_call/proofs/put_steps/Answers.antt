@@ -1,4 +1,3 @@
-use Prim.Native.Nat.{◌-◌}
 use native.Mathlib.Omega.{arith}
 use Rattle.sheet_call.proofs.Turns.{putting-none, putting-lower, putting-same, putting-room, putting-done, counting-done}
 use Rattle.sheet_call.proofs.put_steps.Goals.{then-cost-was, else-cost-was}
@@ -25,10 +24,10 @@ loop-column-preserved c =
     let l = c.loop-column in
     let a = c.args in
     elim c.if-cost-was.branch [
-        then-cost-was w ↦ rw (w.out-is, w.was-is, w.count-is) (putting-lower a.row.now a.earliest.0 a.out.now a.at l.out l.was l.count l.column l.invariant
-            c.loop-column-test.true w.if-cost-was.true _ w.put_step.ensures)
-        | else-cost-was w ↦ rw (w.out-is, w.was-is, w.count-is) (putting-same a.row.now a.earliest.0 a.out.now a.at l.out l.was l.count l.column l.invariant
-            c.loop-column-test.true w.if-cost-was.false)
+      | then-cost-was w ↦ rw (w.out-is, w.was-is, w.count-is) (putting-lower a.row.now a.earliest.0 a.out.now a.at l.out l.was l.count l.column l.invariant
+          c.loop-column-test.true w.if-cost-was.true _ w.put_step.ensures)
+      | else-cost-was w ↦ rw (w.out-is, w.was-is, w.count-is) (putting-same a.row.now a.earliest.0 a.out.now a.at l.out l.was l.count l.column l.invariant
+          c.loop-column-test.true w.if-cost-was.false)
     ]
 
 pub shape_of-out : goal.shape_of-out

@@ -4,7 +4,6 @@ use Rattle.sheet_file.specs.InPlace.{place_at}
 use Rattle.sheet_file.specs.Window.{window}
 use Rattle.sheet_file.proofs.Laws.{tested-true, tested-false}
 use Rattle.sheet_file.proofs.Found.{partly_none, partly_more, partly-nothing, partly-all, judged-top, judged-places, judged-all}
-use Prim.Native.Nat.{◌-◌}
 use native.Mathlib.Omega.{arith}
 use borrow.Author.Tests.{not-true, not-false}
 use mathlib.Core.Path.{◌≡◌, refl}

@@ -1,6 +1,6 @@
 use mathlib.Core.Bool.{true, false}
 use lib.Dec.{leb}
-use borrow.Author.Tests.{leb-true, not-false}
+use borrow.Author.Tests.{leb-true}
 use Rattle.sheet_file.proofs.Laws.{step-short, step-low, step-late, step-dear, step-sound}
 use Prim.Native.Nat.{◌+◌, ◌*◌}
 use native.Mathlib.Omega.{arith}

@@ -2,7 +2,7 @@ use Rattle.source.specs.Source.{file_of}
 use Rattle.sheet_file.specs.SheetFile.{step, any_cost}
 use Rattle.sheet_file.specs.InPlace.{step_at}
 use Rattle.sheet_file.proofs.Laws.{loop-start, loop-more, loop-nothing, loop-done, tested-true, tested-false, minute-small}
-use Prim.Native.Nat.{◌+◌, ◌-◌, ◌*◌}
+use Prim.Native.Nat.{◌+◌, ◌*◌}
 use native.Mathlib.Omega.{arith}
 use borrow.Author.Tests.{not-true, not-false}
 use Rattle.sheet_file.proofs.steps_sound.Goals as goal

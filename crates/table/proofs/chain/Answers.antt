@@ -1,7 +1,6 @@
 -- `table::chain`: the legs below l are chained.
 use Rattle.chart.proofs.Net.{few_legs, charted}
 use Rattle.table.proofs.Chaining.{chained-none, from-few, chain_more}
-use Prim.Native.Nat.{◌-◌}
 use native.Mathlib.Omega.{arith}
 use mathlib.Core.Path.{◌≡◌, ap}
 use lib.ListN.{length, length-set}

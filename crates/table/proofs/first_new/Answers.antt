@@ -1,6 +1,5 @@
 -- `table::first_new`: no place passed has anything new.
 use Rattle.table.proofs.Sweeps.{new-more}
-use Prim.Native.Nat.{◌-◌}
 use native.Mathlib.Omega.{arith}
 use Rattle.table.proofs.first_new.Goals as goal
 

@@ -2,7 +2,6 @@
 use mathlib.Core.List.{append-nil}
 use lib.Seq.{drop-length}
 use borrow.Author.Fill.{fill_more}
-use Prim.Native.Nat.{◌-◌}
 use native.Mathlib.Omega.{arith}
 use mathlib.Core.Path.{◌≡◌, refl, ◌∙◌}
 use lib.ListN.{length, length-set}

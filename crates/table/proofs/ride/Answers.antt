@@ -1,7 +1,7 @@
 -- `table::ride`: the rides before the start of band k are done.
 use Rattle.table.specs.Ride.{band_start}
 use Rattle.table.proofs.Rides.{band-starts, band-ends, rode-none, rode-more}
-use Prim.Native.Nat.{◌+◌, ◌-◌}
+use Prim.Native.Nat.{◌+◌}
 use native.Mathlib.Omega.{arith}
 use Rattle.table.proofs.ride.Goals as goal
 

@@ -1,8 +1,7 @@
 -- The walk back: each step's facts are the laws of Steps.antt at the values that the code has found.
 use Prim.Native.Nat.{ℕ, ◌-◌, ◌%◌}
 use native.Mathlib.Omega.{arith}
-use mathlib.Core.Path.{ap, ◌∙◌}
-use borrow.Author.Rules.{rules}
+use mathlib.Core.Path.{ap}
 use Rattle.plan_file.specs.PlanFile.{query_of}
 use Rattle.walk.proofs.Nets.{in_table}
 use Rattle.walk.proofs.Steps.{stops, earlier, rides-on, same-cell, arrived, waits}

@@ -1,8 +1,8 @@
 use Rattle.walk.proofs.Cells.{none_yet}
 use Rattle.plan.specs.Table.{cell_at}
 use Rattle.plan_file.specs.PlanFile.{query_of}
-use Prim.Native.Nat.{ℕ, ◌-◌, ◌/◌}
-use Prim.Native.Nat.{ℕ, ◌-◌}
+use Prim.Native.Nat.{ℕ, ◌/◌}
+use Prim.Native.Nat.{ℕ}
 use native.Mathlib.Omega.{arith}
 use mathlib.Core.Path.{refl, sym, ap, ◌∙◌}
 use Rattle.walk.proofs.first.Goals as goal

@@ -1,5 +1,4 @@
 -- `write_call::put_bands`: the bands passed follow the fields before them, one put each.
-use Prim.Native.Nat.{◌-◌}
 use native.Mathlib.Omega.{arith}
 use mathlib.Core.Path.{◌≡◌}
 use Rattle.write_call.proofs.Adding.{adds-no-bands, adds-band}

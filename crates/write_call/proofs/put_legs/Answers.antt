@@ -1,5 +1,4 @@
 -- `write_call::put_legs`: the legs passed are put, and the rest is still to be read.
-use Prim.Native.Nat.{◌-◌}
 use native.Mathlib.Omega.{arith}
 use lib.ListN.{length}
 use Rattle.write_call.proofs.Half.{Turn, half-none, turn, half-more, half-all}

@@ -1,6 +1,5 @@
 -- The loop has the toll of the bands it passed.
 use borrow.Author.Rules.{rules}
-use Prim.Native.Nat.{◌-◌}
 use native.Mathlib.Omega.{arith}
 use mathlib.Core.Path.{◌≡◌, refl, ◌∙◌}
 use Rattle.leg.specs.Toll.{toll_of_first}
@@ -20,8 +19,8 @@ loop-k-preserved c =
       omega arith,
       omega arith,
       elim c.if-band-minute.branch [
-          then-band-minute w ↦ cc (toll-begun k self.bands t w.if-band-minute.true)
-          | else-band-minute w ↦ cc (toll-later k self.bands t w.if-band-minute.false)
+        | then-band-minute w ↦ cc (toll-begun k self.bands t w.if-band-minute.true)
+        | else-band-minute w ↦ cc (toll-later k self.bands t w.if-band-minute.false)
       ],
     )
 
