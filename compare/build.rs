@@ -38,7 +38,7 @@ fn main() {
     let archive = archive();
     println!("cargo::rerun-if-changed={}", archive.display());
     if !archive.exists() {
-        println!("cargo::warning=no archive: build it with `rt staticlib terminal` in the repository root");
+        println!("cargo::warning=no archive: build it with `tools/archive` in the repository root");
         return;
     }
     let symbols = symbols(&archive);

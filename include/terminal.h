@@ -1,4 +1,4 @@
-/* The calls of the archive libterminal.a, which `rt staticlib terminal` makes in target/staticlib/.
+/* The calls of the archive libterminal.a, which `tools/archive` makes in target/staticlib/.
  *
  * Nothing is allocated and nothing is kept between calls. The caller lends every buffer; a buffer is a
  * pointer and the number of its bytes or numbers. A pointer is never null (with a length of 0 it may point

@@ -1,5 +1,7 @@
 // Stored cases: inputs of the public calls with the answers of the independent program. compare/README.md has the format.
 // Each function here is proved to be safe and to end; what the calls answer is compared as the program runs.
+#![tactic(auto)]
+
 ghost use Rattle.std.specs.Prelude.{◌≤◌, length};
 
 use terminal::Reply;

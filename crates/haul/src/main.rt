@@ -1,21 +1,44 @@
 // haul: a query and a network on standard input, the plan as text on standard output.
+#![tactic(auto)]
+
 ghost use Rattle.std.specs.Prelude.{◌≤◌, length};
 
-use libc::{STDIN_FILENO, STDOUT_FILENO};
+use std::io;
+use std::io::Read;
 
-fn run(input: &mut [u8], table: &mut [u32], plan: &mut [u8], text: &mut [u8])
+// Reads until the buffer is full, the input ends or a read fails, and returns how many bytes stand at the front.
+fn read_full(reader: &mut impl Read, buffer: &mut [u8]) -> usize
+    ensures { result ≤ length buffer.new }
+{
+    let mut done = 0;
+    while done < buffer.len() {
+        match reader.read(&mut buffer[done..]) {
+            Ok(count) if count > 0 => done += count,
+            _ => break,
+        }
+    }
+    done
+}
+
+fn run<R: Input + Print>(
+    rt: &R,
+    input: &mut [u8],
+    table: &mut [u32],
+    plan: &mut [u8],
+    text: &mut [u8],
+) -> io::Result<()>
     requires { (177 ≤ length plan.old) × (4096 ≤ length text.old) }
 {
-    let size = io::read_full(STDIN_FILENO, input);
+    let size = read_full(&mut rt.reader(), input);
     let written = report::report(&input[..size], table, plan, text);
-    io::write_all(STDOUT_FILENO, &text[..written]);
+    Print::write_all(rt, &text[..written])
 }
 
 // A query is 5 bytes and the largest network 16,132: one byte more shows that something follows it.
-fn main() {
+fn main(rt: HostRuntime) -> io::Result<()> {
     let mut input = [0u8; 16138];
     let mut table = [0u32; 16384];
     let mut plan = [0u8; 177];
     let mut text = [0u8; 4096];
-    run(&mut input, &mut table, &mut plan, &mut text);
+    run(&rt, &mut input, &mut table, &mut plan, &mut text)
 }

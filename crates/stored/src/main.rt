@@ -1,35 +1,54 @@
 // Runs the stored cases of the independent program through the public calls, and prints how many came out as stored.
-use libc::STDOUT_FILENO;
+#![tactic(auto)]
 
-// The cases of one file.
-fn run_file(name: &[u8], list: &mut [u32], out: &mut [u8]) {
-    let file = os::open_read(name);
-    if file < 0 {
-        os::fail(name);
-        return;
+ghost use Rattle.std.specs.Prelude.{◌≤◌, length};
+
+use std::io::Read;
+use std::rt::Files;
+use std::{fs, io};
+
+// Reads until the buffer is full, the file ends or a read fails, and returns how many bytes stand at the front.
+fn read_full(reader: &mut impl Read, buffer: &mut [u8]) -> usize
+    ensures { result ≤ length buffer.new }
+{
+    let mut done = 0;
+    while done < buffer.len() {
+        match reader.read(&mut buffer[done..]) {
+            Ok(count) if count > 0 => done += count,
+            _ => break,
+        }
     }
-    let mut space = io::large_buffer();
-    let size = io::read_full(file, &mut space);
-    libc::close(file);
-    let tally = cases::run(&space[..size], list, out);
-    io::write_all(STDOUT_FILENO, name);
-    io::write_all(STDOUT_FILENO, b": ");
-    io::print_decimal(STDOUT_FILENO, tally.right as u64);
-    io::write_all(STDOUT_FILENO, b" of ");
-    io::print_decimal(STDOUT_FILENO, tally.cases as u64);
-    io::write_all(STDOUT_FILENO, b" as stored\n");
+    done
 }
 
-fn main() {
+// The cases of one file. One that cannot be opened is named on standard error, and the others are run all the same.
+fn run_file<R: Files + Print + Eprint>(
+    rt: &R,
+    name: &str,
+    list: &mut [u32],
+    out: &mut [u8],
+) -> io::Result<()> {
+    let mut space = [0u8; 65536];
+    let size = match fs::open(rt, name) {
+        Ok(mut file) => read_full(&mut file, &mut space),
+        Err(error) => return eprintln!(rt; "{name}: {error}"),
+    };
+    let tally = cases::run(&space[..size], list, out);
+    let right = tally.right;
+    let count = tally.cases;
+    println!(rt; "{name}: {right} of {count} as stored")
+}
+
+fn main(rt: HostRuntime) -> io::Result<()> {
     let mut list = [0u32; 10300];
     let mut out = [0u8; 16384];
-    run_file(b"read.cases", &mut list, &mut out);
-    run_file(b"write.cases", &mut list, &mut out);
-    run_file(b"plan.cases", &mut list, &mut out);
-    run_file(b"sheet.cases", &mut list, &mut out);
-    run_file(b"gate.cases", &mut list, &mut out);
-    run_file(b"trial.cases", &mut list, &mut out);
-    run_file(b"source.cases", &mut list, &mut out);
-    run_file(b"read_largest.cases", &mut list, &mut out);
-    run_file(b"write_largest.cases", &mut list, &mut out);
+    run_file(&rt, "read.cases", &mut list, &mut out)?;
+    run_file(&rt, "write.cases", &mut list, &mut out)?;
+    run_file(&rt, "plan.cases", &mut list, &mut out)?;
+    run_file(&rt, "sheet.cases", &mut list, &mut out)?;
+    run_file(&rt, "gate.cases", &mut list, &mut out)?;
+    run_file(&rt, "trial.cases", &mut list, &mut out)?;
+    run_file(&rt, "source.cases", &mut list, &mut out)?;
+    run_file(&rt, "read_largest.cases", &mut list, &mut out)?;
+    run_file(&rt, "write_largest.cases", &mut list, &mut out)
 }

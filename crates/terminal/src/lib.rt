@@ -1,4 +1,6 @@
-// The calls that other programs link, under their C names: each a few lines over the proved call.
+// The calls that other programs link, as crate `terminal_c` exports them: each a few lines over the proved call.
+#![tactic(auto)]
+
 ghost use Rattle.std.specs.Prelude.{◌≡◌};
 ghost use Rattle.read_call.specs.Read.{Reads};
 ghost use Rattle.write_call.specs.Write.{Writes};
@@ -24,8 +26,7 @@ fn reply_of(number: u32, length: u32) -> Reply
 }
 
 // A network file's fields as a list of numbers.
-#[unsafe(no_mangle)]
-pub extern "C" fn haul_read(net: &[u8], list: &mut [u32]) -> Reply
+pub fn haul_read(net: &[u8], list: &mut [u32]) -> Reply
     ensures { Replies (Reads net.now list.old list.new) result }
 {
     let answer = read_call::read(net, list);
@@ -33,8 +34,7 @@ pub extern "C" fn haul_read(net: &[u8], list: &mut [u32]) -> Reply
 }
 
 // A list of numbers as a network file.
-#[unsafe(no_mangle)]
-pub extern "C" fn haul_write(list: &[u32], out: &mut [u8]) -> Reply
+pub fn haul_write(list: &[u32], out: &mut [u8]) -> Reply
     ensures { Replies (Writes list.now out.old out.new) result }
 {
     let answer = write_call::write(list, out);
@@ -42,8 +42,7 @@ pub extern "C" fn haul_write(list: &[u32], out: &mut [u8]) -> Reply
 }
 
 // The named plan of a query, as a plan file, with the minute table.
-#[unsafe(no_mangle)]
-pub extern "C" fn haul_plan(
+pub fn haul_plan(
     net: &[u8],
     start: u32,
     end: u32,
@@ -59,8 +58,7 @@ pub extern "C" fn haul_plan(
 }
 
 // The bound sheet of a query, with the same table.
-#[unsafe(no_mangle)]
-pub extern "C" fn haul_sheet(
+pub fn haul_sheet(
     net: &[u8],
     start: u32,
     end: u32,
@@ -76,8 +74,7 @@ pub extern "C" fn haul_sheet(
 }
 
 // A plan and a bound sheet judged against a network, whoever wrote them.
-#[unsafe(no_mangle)]
-pub extern "C" fn haul_gate(net: &[u8], plan: &[u8], sheet: &[u8]) -> u32
+pub fn haul_gate(net: &[u8], plan: &[u8], sheet: &[u8]) -> u32
     ensures { Says (GateSays net.now plan.now sheet.now) result }
 {
     let answer = gate::gate(net, plan, sheet);

@@ -1,5 +1,4 @@
 -- `cases::copy_numbers`: lengths are kept, and places stay within bounds.
-use Prim.Native.Nat.{◌-◌}
 use native.Mathlib.Omega.{arith}
 use lib.ListN.{length-set}
 use Rattle.cases.proofs.copy_numbers.Goals as goal

@@ -1,5 +1,4 @@
 -- `cases::fill_bytes`: lengths are kept, and places stay within bounds.
-use Prim.Native.Nat.{◌-◌}
 use native.Mathlib.Omega.{arith}
 use lib.ListN.{length-set}
 use Rattle.cases.proofs.fill_bytes.Goals as goal

@@ -1,5 +1,4 @@
 -- `cases::run`: lengths are kept, and places stay within bounds.
-use Prim.Native.Nat.{◌-◌}
 use native.Mathlib.Omega.{arith}
 use Rattle.cases.proofs.run.Goals.{then-case, else-case}
 use Rattle.cases.proofs.run.Goals as goal
