@@ -7,10 +7,10 @@ use Rattle.bits.proofs.Bytes.{field-byte}
 use Rattle.bits.proofs.byte.Goals as goal
 
 pub overflow_cast-result : goal.overflow_cast-result
-overflow_cast-result c = omega (arith, c.shared_slice_known-1.given c.args.i)
+overflow_cast-result c = omega (arith, c.type_inv.s c.args.i)
 
 pub returns : goal.returns
 returns c =
     let a = c.args in
-    let below : get_or a.s.now a.i 0 < 256 = omega (arith, c.shared_slice_known-1.given a.i) in
+    let below : get_or a.s.now a.i 0 < 256 = omega (arith, c.type_inv.s a.i) in
     (sym (field-byte a.s.now a.i below), below)

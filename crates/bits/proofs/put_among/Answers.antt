@@ -25,7 +25,7 @@ returns c =
     rw place at
     (put-of-stored a.s.now after i n (a.at % 8) a.width d a.value (omega arith) start.requires.2
     (rw word at c.scatter.ensures)
-    (λ j. omega (arith, c.slice_known-2-1.given j)))
+    (λ j. omega (arith, c.type_inv.s j)))
 
 pub scatter-requires : goal.scatter-requires
 scatter-requires c =

@@ -6,6 +6,10 @@ use native.Mathlib.Omega.{arith}
 use mathlib.Core.Path.{◌≡◌, ap, ◌∙◌}
 use Rattle.walk.proofs.explains.Goals as goal
 
+-- a leg that goes elsewhere explains nothing here
+pub returns-then-leg-place : goal.returns-then-leg-place
+returns-then-leg-place c = λ d f. c.if-leg-place.true f.reaches
+
 pub returns-else-source-toll : goal.returns-else-source-toll
 returns-else-source-toll c = λ d f.
     let a = c.args in
