@@ -3,6 +3,7 @@
 
 ghost use Rattle.std.specs.Prelude.{◌≤◌, length};
 
+use std::fmt::InlineText;
 use std::io::Read;
 use std::rt::Files;
 use std::{fs, io};
@@ -21,6 +22,14 @@ fn read_full(reader: &mut impl Read, buffer: &mut [u8]) -> usize
     done
 }
 
+// What the library says of an error, without the number that it adds in brackets.
+fn without_number(text: &str) -> &str {
+    match text.split_once(" (os error ") {
+        Some((words, _)) => words,
+        None => text,
+    }
+}
+
 // The cases of one file. One that cannot be opened is named on standard error, and the others are run all the same.
 fn run_file<R: Files + Print + Eprint>(
     rt: &R,
@@ -31,7 +40,11 @@ fn run_file<R: Files + Print + Eprint>(
     let mut space = [0u8; 65536];
     let size = match fs::open(rt, name) {
         Ok(mut file) => read_full(&mut file, &mut space),
-        Err(error) => return eprintln!(rt; "{name}: {error}"),
+        Err(error) => {
+            let text = InlineText::<128>::of(error);
+            let words = without_number(text.as_str());
+            return eprintln!(rt; "{name}: {words}");
+        }
     };
     let tally = cases::run(&space[..size], list, out);
     let right = tally.right;
