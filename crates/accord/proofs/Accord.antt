@@ -7,9 +7,9 @@ use mathlib.Core.List.{List, ◌++◌}
 use lib.Dec.{leb}
 use lib.ListN.{length, take, drop}
 use lib.Seq.{take_at}
-use Rattle.answer.specs.declared.Answer.{Answer}
-use Rattle.answer.specs.declared.PlanAnswer.{PlanAnswer}
-use Rattle.answer.specs.declared.PlanAnswer.TheVariants.{Done, NoPlan, Refused}
+use Rattle.answer.specs.Plans.{PlanAnswer, plan_length}
+use Rattle.std.specs.Prelude.{Result, Ok, Err}
+use Rattle.answer.specs.declared.Filed.TheVariants.{Plan, NoPlan}
 use Rattle.answer.specs.declared.Refusal.{Refusal}
 use Rattle.answer.specs.declared.Refusal.TheVariants.{Room}
 use Rattle.answer.specs.Plans.{plan_length}
@@ -24,8 +24,6 @@ use Rattle.plan.proofs.Order.{less-then-le}
 use Rattle.plan_file.specs.PlanFile.{PlanFile, plan_bytes, FileOf, most_legs, Allowed}
 use Rattle.plan_file.proofs.Files.{plan-size}
 use Rattle.plan_reader.specs.InPlace.{Says}
-use Rattle.tabled.specs.declared.Judgement.{Judgement}
-use Rattle.tabled.specs.declared.Judgement.TheVariants.{Serve, Refuse}
 use Rattle.tabled.specs.Judge.{judgement, with_network, judged}
 use Rattle.tabled.specs.Comes.{Comes}
 use Rattle.tabled.proofs.Judging.{Passed, passed}
@@ -46,12 +44,12 @@ front : (k : ℕ) (out file bytes rest : List ℕ) → Front k out file → out 
 front k out file bytes rest w e size = w.is ∙ ap (take k) e ∙ take_at bytes rest k size
 
 whole : (answer : PlanAnswer) (out file bytes rest : List ℕ) → Wrote answer out file → out ≡ bytes ++ rest → plan_length answer ≡ length bytes → file ≡ bytes
-whole (Done n) out file bytes rest w e size = front _ out file bytes rest w e (omega (arith, size))
-whole (NoPlan n) out file bytes rest w e size = front _ out file bytes rest w e (omega (arith, size))
-whole (Refused why) out file bytes rest w e size = absurd w
+whole (Ok (Plan n)) out file bytes rest w e size = front _ out file bytes rest w e (omega (arith, size))
+whole (Ok (NoPlan n)) out file bytes rest w e size = front _ out file bytes rest w e (omega (arith, size))
+whole (Err why) out file bytes rest w e size = absurd w
 
 -- a refused call wrote none
-wrote_none : {A : Type 0} (answer : PlanAnswer) (why : Refusal) (out file : List ℕ) → answer ≡ Refused why → Wrote answer out file → A
+wrote_none : {A : Type 0} (answer : PlanAnswer) (why : Refusal) (out file : List ℕ) → answer ≡ Err why → Wrote answer out file → A
 wrote_none answer why out file e w = absurd (subst (λ (a : PlanAnswer). Wrote a out file) e w)
 
 module _ (N : Network) (q : Query) where
@@ -78,7 +76,7 @@ module _ (N : Network) (q : Query) where
       n : ℕ
       n = plan_bytes (length a.file.rides)
 
-      at : (b : Bool) → answer ≡ pick b (a.given n) (Refused Room) → Output b a.file lent out → PlanWritten s
+      at : (b : Bool) → answer ≡ pick b (a.given n) (Err Room) → Output b a.file lent out → PlanWritten s
       at true e (bytes, is, at_front) =
           let size : plan_length answer ≡ length bytes = ap plan_length e ∙ plan-length a.right n ∙ sym (plan-size a.file bytes is) in
           let same = whole answer out s bytes (drop (length bytes) lent) w at_front size in
@@ -101,7 +99,7 @@ module _ (N : Network) (q : Query) where
       n : ℕ
       n = sheet_bytes a.sheet
 
-      at : (b : Bool) → answer ≡ pick b (a.given n) (Refused Room) → SheetOutput b a.sheet lent out → SheetWritten s
+      at : (b : Bool) → answer ≡ pick b (a.given n) (Err Room) → SheetOutput b a.sheet lent out → SheetWritten s
       at true e (bytes, is, at_front) =
           let size : plan_length answer ≡ length bytes = ap plan_length e ∙ sheet-length a.right n ∙ sym is.size in
           let same = whole answer out s bytes (drop (length bytes) lent) w at_front size in
@@ -110,13 +108,13 @@ module _ (N : Network) (q : Query) where
 
 -- ---- both files pass
 
-module _ (net : List ℕ) (q : Query) (other : ℕ) (plan-file sheet-file : List ℕ) (r : Answer) (g : GateSays net plan-file sheet-file r) where
+module _ (net : List ℕ) (q : Query) (other : ℕ) (plan-file sheet-file : List ℕ) (r : Result Unit Refusal) (g : GateSays net plan-file sheet-file r) where
   -- of a network and a query that both calls served
   module _ (n : NetworkFile) (end : ℕ) (is : of_file net ≡ found n end) (cells : ℕ) (p : Passed n.places q cells) where
     known : Known n.places q
     known = record { start = p.start; end = p.end; earliest = p.earliest; latest = p.latest }
 
-    passes : PlanWritten (theory n) q plan-file → SheetWritten (theory n) (toward q other) sheet-file → r ≡ Answer.Done 0
+    passes : PlanWritten (theory n) q plan-file → SheetWritten (theory n) (toward q other) sheet-file → r ≡ Ok tt
     passes a s = at a.right (record { file = a.is; allowed = plan-allowed (theory n) q (askable net n end q is known p.window) a.right })
       where
         ours : OurSheet (theory n) q s.sheet
@@ -127,7 +125,7 @@ module _ (net : List ℕ) (q : Query) (other : ℕ) (plan-file sheet-file : List
             subst (λ (k : ℕ). sheet_of k q sheet-file ≡ found s.sheet (bits_of (sheet_fields s.sheet))) ours.size
             (sheet-reads-back sheet-file q p.latest s.sheet (λ i low. ours.steps i (omega (arith, ours.size))) s.is)
 
-        at : {f : PlanFile} {given : ℕ → PlanAnswer} → Right (theory n) q f given → Says plan-file f → r ≡ Answer.Done 0
+        at : {f : PlanFile} {given : ℕ → PlanAnswer} → Right (theory n) q f given → Says plan-file f → r ≡ Ok tt
         at (plan rides named) says =
             least-accepted net plan-file sheet-file n end is _ says known p.window s.sheet _ reads ours r g refl
             (record { feasible = named.feasible; sum = refl })
@@ -140,17 +138,17 @@ module _ (net : List ℕ) (q : Query) (other : ℕ) (plan-file sheet-file : List
     by-network : (x : Found NetworkFile) → of_file net ≡ x
         → Comes Answered (judged x q (length table₁)) q table₁ table₁' out₁ out₁' answer₁
         → Comes SheetAnswered (judged x (toward q other) (length table₂)) (toward q other) table₂ table₂' out₂ out₂' answer₂
-        → r ≡ Answer.Done 0
+        → r ≡ Ok tt
     by-network (refused why) is c d = wrote_none answer₁ why out₁' plan-file c.answer_is w₁
     by-network (found n end) is c d = by-judgement (judgement n.places q (length table₁)) (judgement n.places (toward q other) (length table₂)) refl c d
       where
-        by-judgement : (i j : Judgement) → judgement n.places q (length table₁) ≡ i
+        by-judgement : (i j : Result Unit Refusal) → judgement n.places q (length table₁) ≡ i
             → Comes Answered (with_network i (theory n)) q table₁ table₁' out₁ out₁' answer₁
             → Comes SheetAnswered (with_network j (theory n)) (toward q other) table₂ table₂' out₂ out₂' answer₂
-            → r ≡ Answer.Done 0
-        by-judgement (Refuse why) j e c d = wrote_none answer₁ why out₁' plan-file c.answer_is w₁
-        by-judgement Serve (Refuse why) e c d = wrote_none answer₂ why out₂' sheet-file d.answer_is w₂
-        by-judgement Serve Serve e c d =
+            → r ≡ Ok tt
+        by-judgement (Err why) j e c d = wrote_none answer₁ why out₁' plan-file c.answer_is w₁
+        by-judgement (Ok one) (Err why) e c d = wrote_none answer₂ why out₂' sheet-file d.answer_is w₂
+        by-judgement (Ok one) (Ok two) e c d =
             passes n end is (length table₁) (passed n.places q (length table₁) e)
             (plan-written (theory n) q out₁ out₁' answer₁ plan-file c.answered w₁)
             (sheet-written (theory n) (toward q other) out₂ out₂' answer₂ sheet-file d.answered w₂)

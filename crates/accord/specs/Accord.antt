@@ -1,8 +1,8 @@
 -- Document 01: for one query, the plan call's file and the sheet call's file pass the gate; and the sheet serves every end.
-use Rattle.std.specs.Prelude.{ℕ, ◌≡◌, List, take}
-use Rattle.answer.specs.declared.Answer.{Answer}
-use Rattle.answer.specs.declared.PlanAnswer.{PlanAnswer}
-use Rattle.answer.specs.declared.PlanAnswer.TheVariants.{Done, NoPlan, Refused}
+use Rattle.std.specs.Prelude.{ℕ, Result, Ok, Err, ◌≡◌, List, take}
+use Rattle.answer.specs.declared.Refusal.{Refusal}
+use Rattle.answer.specs.declared.Filed.TheVariants.{Plan, NoPlan}
+use Rattle.answer.specs.Plans.{PlanAnswer}
 use Rattle.plan.specs.Network.{Query}
 use Rattle.plan_call.specs.Call.{Plans}
 use Rattle.sheet_call.specs.Sheet.{Sheets}
@@ -14,9 +14,9 @@ pub record Front (n : ℕ) (out file : List ℕ) : Type 0 where
 
 -- the file that a call wrote: with 0 and with 10 as many bytes of its output as the answer says, with any other answer none
 abbrev pub Wrote : PlanAnswer → List ℕ → List ℕ → Type 0
-Wrote (Done n) out file = Front n out file
-Wrote (NoPlan n) out file = Front n out file
-Wrote (Refused why) out file = ⊥
+Wrote (Ok (Plan n)) out file = Front n out file
+Wrote (Ok (NoPlan n)) out file = Front n out file
+Wrote (Err why) out file = ⊥
 
 -- the same start and window, to another end
 abbrev pub toward : Query → ℕ → Query
@@ -29,5 +29,5 @@ OursAccepted =
     (net : List ℕ) (q : Query) (end : ℕ) (plan sheet : List ℕ)
     → (table₁ table₁' out₁ out₁' : List ℕ) (answer₁ : PlanAnswer) → Plans net q table₁ table₁' out₁ out₁' answer₁ → Wrote answer₁ out₁' plan
     → (table₂ table₂' out₂ out₂' : List ℕ) (answer₂ : PlanAnswer) → Sheets net (toward q end) table₂ table₂' out₂ out₂' answer₂ → Wrote answer₂ out₂' sheet
-    → (r : Answer) → GateSays net plan sheet r
-    → r ≡ Answer.Done 0
+    → (r : Result Unit Refusal) → GateSays net plan sheet r
+    → r ≡ Ok tt

@@ -1,9 +1,7 @@
 -- Document 01, "Numbers that come back": the number and the length of each answer.
-use Rattle.std.specs.Prelude.{ℕ}
+use Rattle.std.specs.Prelude.{ℕ, Result, Ok, Err}
 use Rattle.answer.specs.declared.Refusal.{Refusal}
 use Rattle.answer.specs.declared.Refusal.TheVariants.{Short, Edition, Range, Order, Tail, Query, Window, Cells, Room, NoPlan, PlanFile, Plan, SheetFile, Rules, Loose}
-use Rattle.answer.specs.declared.Answer.{Answer}
-use Rattle.answer.specs.declared.Answer.TheVariants.{Done, Refused}
 
 -- the paper's number of a refusal
 abbrev pub number_of : Refusal → ℕ
@@ -23,12 +21,16 @@ number_of SheetFile = 13
 number_of Rules = 14
 number_of Loose = 15
 
+-- what a call that writes answers: a length, or a refusal
+abbrev pub Answer : Type 0
+Answer = Result ℕ Refusal
+
 -- the number that comes back: 0 is done
-abbrev pub answer_number : Answer → ℕ
-answer_number (Done n) = 0
-answer_number (Refused why) = number_of why
+abbrev pub answer_number : {A : Type 0} → Result A Refusal → ℕ
+answer_number (Ok done) = 0
+answer_number (Err why) = number_of why
 
 -- the length that comes back: what was written, and 0 with a refusal
 abbrev pub answer_length : Answer → ℕ
-answer_length (Done n) = n
-answer_length (Refused why) = 0
+answer_length (Ok n) = n
+answer_length (Err why) = 0

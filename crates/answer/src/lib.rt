@@ -25,23 +25,21 @@ pub enum Refusal {
     Loose,
 }
 
-// What a call answers: done, with the length of what it wrote, or a refusal.
+// What a call that writes answers: the length of what it wrote, or why it refuses.
+pub type Answer = Result<u32, Refusal>;
+
+// The file that the plan call or the sheet call wrote, and its length: where there is no plan it says so, and is a file all the same.
 #[derive(Clone, Copy)]
-pub enum Answer {
-    Done(u32),
-    Refused(Refusal),
+pub enum Filed {
+    Plan(u32),
+    NoPlan(u32),
 }
 
-// What the plan call and the sheet call answer: "no plan" is a refusal by its number, and writes a file all the same.
-#[derive(Clone, Copy)]
-pub enum PlanAnswer {
-    Done(u32),
-    NoPlan(u32),
-    Refused(Refusal),
-}
+// What the plan call and the sheet call answer: "no plan" is a refusal by its number alone.
+pub type PlanAnswer = Result<Filed, Refusal>;
 
 impl Refusal {
-    // The paper's number.
+    // The paper's number. A match, not the variants' own numbers: a wrong program that gives two refusals one number must stay one to refuse.
     pub fn number(self) -> u32
         ensures { result ≡ number_of self }
     {
@@ -65,48 +63,43 @@ impl Refusal {
     }
 }
 
-impl Answer {
-    // The number that comes back.
-    pub fn number(self) -> u32
-        ensures { result ≡ answer_number self }
-    {
-        match self {
-            Answer::Done(_) => 0,
-            Answer::Refused(why) => why.number(),
-        }
-    }
-
-    // The length that comes back: a refusal wrote nothing.
-    pub fn length(self) -> u32
-        ensures { result ≡ answer_length self }
-    {
-        match self {
-            Answer::Done(written) => written,
-            Answer::Refused(_) => 0,
-        }
+// The number that comes back.
+pub fn number<T: Drop>(answer: Result<T, Refusal>) -> u32
+    ensures { result ≡ answer_number answer }
+{
+    match answer {
+        Ok(_) => 0,
+        Err(why) => why.number(),
     }
 }
 
-impl PlanAnswer {
-    // The number that comes back.
-    pub fn number(self) -> u32
-        ensures { result ≡ plan_number self }
-    {
-        match self {
-            PlanAnswer::Done(_) => 0,
-            PlanAnswer::NoPlan(_) => 10,
-            PlanAnswer::Refused(why) => why.number(),
-        }
+// The length that comes back: a refusal wrote nothing.
+pub fn length(answer: Answer) -> u32
+    ensures { result ≡ answer_length answer }
+{
+    match answer {
+        Ok(written) => written,
+        Err(_) => 0, // nothing was written
     }
+}
 
-    // The length that comes back.
-    pub fn length(self) -> u32
-        ensures { result ≡ plan_length self }
-    {
-        match self {
-            PlanAnswer::Done(written) => written,
-            PlanAnswer::NoPlan(written) => written,
-            PlanAnswer::Refused(_) => 0,
-        }
+// The number of a call that may say "no plan".
+pub fn plan_number(answer: PlanAnswer) -> u32
+    ensures { result ≡ plan_number answer }
+{
+    match answer {
+        Ok(Filed::Plan(_)) => 0,
+        Ok(Filed::NoPlan(_)) => 10,
+        Err(why) => why.number(),
+    }
+}
+
+// Its length: that of the file, whatever it says.
+pub fn plan_length(answer: PlanAnswer) -> u32
+    ensures { result ≡ plan_length answer }
+{
+    match answer {
+        Ok(Filed::Plan(written) | Filed::NoPlan(written)) => written,
+        Err(_) => 0,
     }
 }

@@ -33,10 +33,8 @@ fn gather(s: &[u8], i: usize, count: usize) -> u64
     ensures { result ≡ field s.now (8 * i) (8 * count) }
 {
     let mut word: u64 = 0;
-    let mut k = 0;
-    while k < count {
+    for k in 0..count {
         word = word * 0x100 + byte(s, i + k) as u64;
-        k += 1;
     }
     word
 }
@@ -84,10 +82,8 @@ fn scatter(s: &mut [u8], i: usize, count: usize, word: u64)
     requires { (count ≤ 8) × (i + count ≤ length s.old) × (word < 2 ^ (8 * count)) }
     ensures { Stored s.old s.new i count word }
 {
-    let mut k = 0;
-    while k < count {
+    for k in 0..count {
         s[i + k] = ((word >> (8 * (count - 1 - k))) % 0x100) as u8;
-        k += 1;
     }
 }
 
@@ -119,9 +115,5 @@ pub fn put(s: &mut [u8], at: usize, width: usize, value: u32)
 pub fn clear(out: &mut [u8])
     ensures { out.new ≡ replicate (length out.old) 0 }
 {
-    let mut i = 0;
-    while i < out.len() {
-        out[i] = 0;
-        i += 1;
-    }
+    out.fill(0);
 }

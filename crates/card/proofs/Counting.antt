@@ -4,16 +4,13 @@ use native.Mathlib.Omega.{arith}
 use native.Mathlib.Decide.{dec_lt, dec_le}
 use mathlib.Core.Path.{◌≡◌, sym, subst}
 use mathlib.Core.List.{List}
-use Rattle.card.specs.Card.{slot, Rising, Begun}
+use Rattle.card.specs.Card.{slot, Rising}
 
 -- of the first k slots just the first n have begun at minute t
 pub record Counted (minutes : List ℕ) (at t n k : ℕ) : Type 0 where
   pub few : n ≤ k
   pub before : (j : ℕ) → j < n → slot minutes at j ≤ t
   pub after : (j : ℕ) → n ≤ j → j < k → t < slot minutes at j
-
-pub counted_none : (minutes : List ℕ) (at t : ℕ) → Counted minutes at t 0 0
-counted_none minutes at t = record { few = omega arith; before = λ j h. absurd (omega arith); after = λ j h l. absurd (omega arith) }
 
 module _ (minutes : List ℕ) (at t n k : ℕ) (h : Counted minutes at t n k) where
   -- one more that has not begun
@@ -47,9 +44,6 @@ module _ (minutes : List ℕ) (at t n k : ℕ) (h : Counted minutes at t n k) wh
       at_slot : (j : ℕ) → Dec (j < n) → j < n + 1 → slot minutes at j ≤ t
       at_slot j (yes low) l = h.before j low
       at_slot j (no high) l = let same : j ≡ k = omega (arith, all) in subst (λ (x : ℕ). slot minutes at x ≤ t) (sym same) due
-
-pub counted-all : (minutes : List ℕ) (at size t n k : ℕ) → Counted minutes at t n k → k ≡ size → Begun minutes at size t n
-counted-all minutes at size t n k h e = record { few = omega (arith, h.few); before = h.before; after = λ j l m. h.after j l (omega arith) }
 
 -- what a slot adds
 pub adds_one : (t m : ℕ) → t < 4096 → m ≤ t → (4096 + t - m) / 4096 ≡ 1

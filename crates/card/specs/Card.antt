@@ -1,7 +1,8 @@
 -- A card: a few slots of minutes and cents, in two lists from the same index on.
-use Rattle.std.specs.Prelude.{ℕ, ◌+◌, ◌*◌, ◌≤◌, ◌<◌, ◌≡◌, true, false, ◌⊎◌, List, length, get_or}
+use Rattle.std.specs.Prelude.{ℕ, ◌+◌, ◌*◌, ◌≤◌, ◌<◌, ◌≡◌, ◌⊎◌, List, length, get_or, Option, Some, None}
 use Rattle.bits.specs.Field.{field}
-use Rattle.card.specs.declared.Shown.{Shown}
+use Rattle.leg.specs.declared.Cents.{Cents}
+use Rattle.leg.specs.Ranges.{cents}
 
 -- slot k of the card from index `at` on
 abbrev pub slot : List ℕ → ℕ → ℕ → ℕ
@@ -49,9 +50,9 @@ pub record Begun (minutes : List ℕ) (at size t n : ℕ) : Type 0 where
   pub before : (k : ℕ) → k < n → slot minutes at k ≤ t
   pub after : (k : ℕ) → n ≤ k → k < size → t < slot minutes at k
 
--- what a card shows: the cents of the last slot that has begun at minute t
-pub record Shows (minutes prices : List ℕ) (at size t : ℕ) (r : Shown) : Type 0 where
+-- what a card shows: the cents of the last slot that has begun at minute t, if one has
+pub record Shows (minutes prices : List ℕ) (at size t : ℕ) (r : Option Cents) : Type 0 where
   pub slots : ℕ
   pub begun : Begun minutes at size t slots
-  pub nothing : slots ≡ 0 → (r.has ≡ false) × (r.price.0 ≡ 0)
-  pub last : (k : ℕ) → slots ≡ k + 1 → (r.has ≡ true) × (r.price.0 ≡ slot prices at k)
+  pub nothing : slots ≡ 0 → r ≡ None
+  pub last : (k : ℕ) → slots ≡ k + 1 → r ≡ Some (cents (slot prices at k))

@@ -2,91 +2,73 @@
 #![tactic(auto)]
 
 ghost use Rattle.std.specs.Prelude.{◌≡◌, ◌+◌, ◌*◌, ◌≤◌, ◌<◌, length};
-ghost use Rattle.card.specs.Card.{Written, Kept, Tidy, Begun, Shows};
+ghost use Rattle.bits.specs.Field.{field};
+ghost use Rattle.card.specs.Card.{Written, Kept, Begun};
+ghost use Rattle.card.specs.One.{Ready, ShownOn};
 
 use leg::{Cents, Minute};
 
-// What a card shows at a minute: the cents of the last slot that has begun, if one has.
-#[derive(Clone, Copy)]
-pub struct Shown {
-    pub has: bool,
-    pub price: Cents,
+// One slot of a file from a bit on: a minute of 12 bits and cents of WIDTH bits, read together where one field holds both.
+fn slot<const WIDTH: usize>(file: &[u8], bit: usize) -> (u32, u32)
+    requires { (1 ≤ WIDTH) × (WIDTH ≤ 32) × (bit + 12 + WIDTH ≤ 8 * length file.now) × (bit ≤ 9000000000) }
+    ensures { (result.0 ≡ field file.now bit 12) × (result.1 ≡ field file.now (bit + 12) WIDTH) }
+{
+    if WIDTH <= 20 {
+        let both = reader::field(file, bit, 12 + WIDTH);
+        (both >> WIDTH, both % (1 << WIDTH))
+    } else {
+        let minute = reader::field(file, bit, 12);
+        (minute, reader::field(file, bit + 12, WIDTH))
+    }
 }
 
-// Writes `count` steps of a sheet into the slots from `at` on: a minute of 12 bits and cents of 32 bits each.
-pub fn fill_steps(
-    sheet: &[u8],
+// Writes `count` pairs of a minute and cents of WIDTH bits into the first slots of a card: the steps of a sheet, or the bands of a network.
+pub fn fill<const WIDTH: usize>(
+    file: &[u8],
     bit: usize,
     count: usize,
     minutes: &mut [u32],
     prices: &mut [u32],
-    at: usize,
 )
-    requires { (count ≤ 16) × (bit ≤ 8589934592) × (bit + 44 * count ≤ 8 * length sheet.now) × (at ≤ 100000) × (at + count ≤ length minutes.old) × (at + count ≤ length prices.old) }
-    ensures { Written sheet.now bit 32 count minutes.new prices.new at
-        × Kept minutes.old minutes.new at count × Kept prices.old prices.new at count }
+    requires { (1 ≤ WIDTH) × (WIDTH ≤ 32) × (count ≤ 16) × (bit ≤ 8589934592) × (bit + count * (12 + WIDTH) ≤ 8 * length file.now) × (count ≤ length minutes.old) × (count ≤ length prices.old) }
+    ensures { Written file.now bit WIDTH count minutes.new prices.new 0
+        × Kept minutes.old minutes.new 0 count × Kept prices.old prices.new 0 count }
 {
-    let mut k = 0;
-    while k < count {
-        let slot = bit + 44 * k;
-        minutes[at + k] = reader::field(sheet, slot, 12);
-        prices[at + k] = reader::field(sheet, slot + 12, 32);
-        k += 1;
+    for k in 0..count {
+        (minutes[k], prices[k]) = slot::<WIDTH>(file, bit + k * (12 + WIDTH));
     }
 }
 
-// Writes `count` bands of a network into the slots from `at` on: a minute of 12 bits and cents of 16 bits each, read together.
-pub fn fill_bands(
-    net: &[u8],
-    bit: usize,
-    count: usize,
-    starts: &mut [u32],
-    tolls: &mut [u32],
-    at: usize,
-)
-    requires { (count ≤ 16) × (bit ≤ 8589934592) × (bit + 28 * count ≤ 8 * length net.now) × (at ≤ 100000) × (at + count ≤ length starts.old) × (at + count ≤ length tolls.old) }
-    ensures { Written net.now bit 16 count starts.new tolls.new at
-        × Kept starts.old starts.new at count × Kept tolls.old tolls.new at count }
-{
-    let mut k = 0;
-    while k < count {
-        let both = reader::field(net, bit + 28 * k, 28);
-        starts[at + k] = both / 0x1_0000;
-        tolls[at + k] = both % 0x1_0000;
-        k += 1;
-    }
+// The slots of one card: what each costs from its minute on. Two lists and not one of pairs, so that the counting has the minutes side by side.
+#[derive(Clone, Copy)]
+pub struct Card<'a> {
+    pub minutes: &'a [u32],
+    pub prices: &'a [u32],
 }
 
-// How many slots have begun at a minute: each adds 1 or 0, without a branch or a test, so that several are counted at a time.
-fn begun(minutes: &[u32], at: usize, size: usize, minute: Minute) -> usize
-    requires { Tidy minutes.now at size × (minute.0 < 4096) }
-    ensures { Begun minutes.now at size minute.0 result }
-{
-    let now = minute.0;
-    let mut slots = 0u32;
-    let mut k = 0;
-    while k < size {
-        slots += (Minute::NEVER + now - minutes[at + k]) / Minute::NEVER;
-        k += 1;
+impl<'a> Card<'a> {
+    // How many slots have begun at a minute: each adds 1 or 0, without a branch or a test, so that several are counted at a time.
+    fn begun(self, minute: Minute) -> usize
+        requires { Ready self × (minute.0 < 4096) }
+        ensures { Begun self.entry.minutes.now 0 (length self.entry.minutes.now) minute.0 result }
+    {
+        let now = minute.0;
+        let mut slots = 0u32;
+        for begins in self.minutes {
+            slots += (Minute::NEVER + now - *begins) / Minute::NEVER;
+        }
+        slots as usize
     }
-    slots as usize
-}
 
-// What the card of `size` slots from `at` on shows at a minute.
-pub fn look(minutes: &[u32], prices: &[u32], at: usize, size: usize, minute: Minute) -> Shown
-    requires { Tidy minutes.now at size × (at + size ≤ length prices.now) × (minute.0 < 4096) }
-    ensures { Shows minutes.now prices.now at size minute.0 result }
-{
-    let slots = begun(minutes, at, size, minute);
-    if slots == 0 {
-        return Shown {
-            has: false,
-            price: Cents(0),
-        };
-    }
-    let last = prices[at + slots - 1];
-    Shown {
-        has: true,
-        price: Cents(last),
+    // What the card shows at a minute: the cents of the last slot that has begun, if one has.
+    pub fn look(self, minute: Minute) -> Option<Cents>
+        requires { Ready self × (minute.0 < 4096) }
+        ensures { ShownOn self.entry minute.0 result }
+    {
+        let slots = self.begun(minute);
+        if slots == 0 {
+            return None;
+        }
+        Some(Cents(self.prices[slots - 1]))
     }
 }

@@ -11,13 +11,13 @@ use Rattle.plan.specs.Legs.{no_leg}
 use Rattle.source.specs.Source.{file_of}
 use Rattle.network.specs.Reading.{found}
 use Rattle.network.specs.Network.{Network, edition1, leg, legs}
-use Rattle.network.specs.Answers.{leg_found}
+use Rattle.network.specs.Answers.{leg_or_none}
 use Rattle.network.proofs.Legs.{Passed, passed_none, passed_more, passed-all}
 use Rattle.chart.specs.Chart.{Charted}
 
 -- the leg that the chart gives is the network's
 pub charted-leg : (s : List ℕ) (net : Network) (chart : List ℕ) → Charted s net chart → (k : ℕ) → k < length net.legs
-    → (leg_found (leg edition1 net.places (file_of s) (get_or chart k 0))).leg ≡ get_or net.legs k no_leg
+    → leg_or_none (leg edition1 net.places (file_of s) (get_or chart k 0)) ≡ get_or net.legs k no_leg
 charted-leg s net chart c k h = rw (c.stands k h).1
 
 zeros : (n j : ℕ) → get_or {A = ℕ} (replicate n 0) j 0 ≡ 0

@@ -8,11 +8,11 @@ use Rattle.source.specs.Source.{file_of}
 use Rattle.plan.specs.Network.{InRange}
 use Rattle.plan.specs.Legs.{no_leg}
 use Rattle.plan.proofs.Legs.{legs-in-range}
-use Rattle.network.specs.declared.NetworkFound.{NetworkFound}
+use Rattle.std.specs.Prelude.{Ok}
 use Rattle.network.specs.declared.Size.{Size}
 use Rattle.network.specs.Reading.{found}
 use Rattle.network.specs.Network.{Network, edition1, leg, of_file}
-use Rattle.network.specs.Answers.{size_of, network_found, leg_found}
+use Rattle.network.specs.Answers.{size_of, network_found, leg_or_none}
 use Rattle.network.proofs.Sound.{SoundLeg, SoundNetwork}
 use Rattle.network.proofs.Files.{sound-file}
 use Rattle.chart.specs.Net.{net_of, net_in, theory, theory_in}
@@ -32,7 +32,7 @@ pub record InFile (s : List ℕ) (size : Size) : Type 0 where
   pub legs : size.legs ≡ length (net_in s).legs
   pub sound : SoundNetwork (net_in s)
 
-pub in-file : (s : List ℕ) (size : Size) → network_found (of_file s) ≡ NetworkFound.Sound size → InFile s size
+pub in-file : (s : List ℕ) (size : Size) → network_found (of_file s) ≡ Ok size → InFile s size
 in-file s size ok =
     let f = sound-file s size ok in
     let is : f.net ≡ net_in s = sym (net-is s f.net f.end f.stands) in
@@ -52,7 +52,7 @@ sound-ranges net s =
     let leg = s.each_leg l no_leg h in
     record { source = leg.from_below; target = leg.to_below; tolls = leg.tolls_within }
 
-module _ (s : List ℕ) (size : Size) (ok : network_found (of_file s) ≡ NetworkFound.Sound size) where
+module _ (s : List ℕ) (size : Size) (ok : network_found (of_file s) ≡ Ok size) where
   pub places-are : size.places ≡ (net_in s).places
   places-are = (in-file s size ok).places
 
@@ -81,7 +81,7 @@ module _ (s : List ℕ) (size : Size) (ok : network_found (of_file s) ≡ Networ
     leg-sound = (in-file s size ok).sound.each_leg k no_leg leg-known
 
     pub leg-is : (chart : List ℕ) → Chart s chart
-        → (leg_found (leg edition1 size.places (file_of s) (get_or chart k 0))).leg ≡ get_or (net_in s).legs k no_leg
+        → leg_or_none (leg edition1 size.places (file_of s) (get_or chart k 0)) ≡ get_or (net_in s).legs k no_leg
     leg-is chart c =
-        ap (λ (n : ℕ). (leg_found (leg edition1 n (file_of s) (get_or chart k 0))).leg) places-are
+        ap (λ (n : ℕ). leg_or_none (leg edition1 n (file_of s) (get_or chart k 0))) places-are
         ∙ charted-leg s (net_in s) chart (charted chart c) k leg-known

@@ -1,7 +1,8 @@
 -- The network that the bytes of a network file stand for: as it is read, and as the plans see it.
-use Rattle.std.specs.Prelude.{ℕ, List, []}
+use Rattle.std.specs.Prelude.{ℕ, List, [], get_or}
+use Rattle.leg.specs.declared.Leg.{Leg}
 use Rattle.plan.specs.Network as Plan
-use Rattle.plan.specs.Legs.{network_of}
+use Rattle.plan.specs.Legs.{network_of, no_leg}
 use Rattle.network.specs.Reading.{Found, refused, found}
 use Rattle.network.specs.Network.{Network, of_file}
 
@@ -21,3 +22,7 @@ theory net = network_of net.places net.legs
 -- the network that a file's bytes stand for, as the plans see it
 abbrev pub theory_in : List ℕ → Plan.Network
 theory_in s = theory (net_in s)
+
+-- leg k of the network that a file's bytes stand for
+abbrev pub leg_in : List ℕ → ℕ → Leg
+leg_in s k = get_or (net_in s).legs k no_leg

@@ -3,29 +3,29 @@
 
 ghost use Rattle.std.specs.Prelude.{◌≡◌, ◌≤◌};
 ghost use Rattle.source.specs.Source.{file_of};
-ghost use Rattle.network.specs.declared.NetworkFound.{NetworkFound};
 ghost use Rattle.network.specs.Network.{edition1, leg, of_file};
-ghost use Rattle.network.specs.Answers.{leg_found, network_found};
+ghost use Rattle.network.specs.Answers.{leg_or_none, network_found};
 ghost use Rattle.chart.specs.Chart.{Chart};
+
+mod tariff;
 
 use leg::Leg;
 use network::Size;
-use source::Origin;
+use source::File;
+pub use tariff::Tariff;
 
 // The bit at which each leg stands: a leg's head has 28 bits, the last four of them its number of bands, and each band 28.
 pub fn chart(net: &[u8], size: Size) -> [u32; 512]
-    requires { network_found (of_file net.now) ≡ NetworkFound.Sound size }
+    requires { network_found (of_file net.now) ≡ Ok size }
     ensures { Chart net.now result }
 {
     let legs = size.legs;
     let mut chart = [0u32; 512];
     let mut place = 25;
-    let mut k = 0;
-    while k < legs {
+    for k in 0..legs {
         chart[k] = place as u32;
         let bands = reader::field(net, place + 24, 4) as usize;
         place += 28 + 28 * bands;
-        k += 1;
     }
     chart
 }
@@ -33,10 +33,10 @@ pub fn chart(net: &[u8], size: Size) -> [u32; 512]
 // The leg at a bit of the file.
 pub fn leg_at(net: &[u8], places: u32, at: u32) -> Leg
     requires { at ≤ 200000 }
-    ensures { result ≡ (leg_found (leg edition1 places (file_of net.now) at)).leg }
+    ensures { result ≡ leg_or_none (leg edition1 places (file_of net.now) at) }
 {
-    let no_list = [0u32; 1];
-    let found = network::leg_from(Origin::File, net, &no_list, at as usize, places);
-    let leg = found.leg;
-    leg
+    match network::leg_from(&File(net), at as usize, places) {
+        Ok((leg, _)) => leg,
+        Err(_) => Leg::none(),
+    }
 }

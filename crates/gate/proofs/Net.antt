@@ -1,40 +1,28 @@
 -- What a sound network file is, and its legs by the chart. Assumes nothing.
 use Prim.Native.Nat.{ℕ, ◌<◌}
-use native.Mathlib.Omega.{arith}
-use mathlib.Core.Path.{◌≡◌}
-use mathlib.Core.List.{List}
 use lib.ListN.{get_or}
 use Rattle.leg.specs.declared.Leg.{Leg}
-use Rattle.source.specs.Source.{file_of}
-use Rattle.network.specs.Network.{edition1, leg}
-use Rattle.network.specs.declared.Size.{Size}
-use Rattle.network.specs.Answers.{leg_found}
 use Rattle.network.proofs.Sound.{SoundLeg}
-use Rattle.chart.specs.Chart.{Charted}
-use Rattle.chart.specs.Net.{net_in}
-use Rattle.chart.proofs.Net.{InFile, in-file, charted as charted-in, leg-is as leg-in, leg-sound as sound-in}
+use Rattle.chart.specs.declared.tariff.Tariff.{Tariff}
+use Rattle.chart.specs.Net.{net_in, leg_in}
+use Rattle.chart.proofs.Net.{InFile, in-file, charted, leg-known, leg-sound as sound-in}
 use Rattle.rule_b.specs.Rule.{InOrder}
 use Rattle.network.proofs.InFile.{Same, leg-there}
-use Rattle.gate.specs.Parts.{leg_of, KnownFile}
 
-module _ (s : List ℕ) (size : Size) (chart : List ℕ) (h : KnownFile s size chart) where
-  pub read : InFile s size
-  read = in-file s size h.sound
+module _ (t : Tariff) where
+  pub read : InFile t.net.now t.size
+  read = in-file t.net.now t.size t.sound
 
-  pub charted : Charted s (net_in s) chart
-  charted = charted-in s size h.sound chart h.charted
+  module _ (k : ℕ) (low : k < t.size.legs) where
+    -- leg k where it stands in the file
+    pub leg-stands : Same t.net.now (get_or t.chart k 0) (leg_in t.net.now k)
+    leg-stands =
+        let c = charted t.net.now t.size t.sound t.chart t.charted in
+        let there = c.stands k (leg-known t.net.now t.size t.sound k low) in
+        leg-there t.net.now (net_in t.net.now).places (get_or t.chart k 0) (leg_in t.net.now k) there.0 there.1
 
-  pub leg-is : (k : ℕ) → k < size.legs → (leg_found (leg edition1 size.places (file_of s) (get_or chart k 0))).leg ≡ leg_of s k
-  leg-is k low = leg-in s size h.sound k low chart h.charted
-
-  -- leg k where it stands in the file
-  pub leg-stands : (k : ℕ) → k < size.legs → Same s (get_or chart k 0) (leg_of s k)
-  leg-stands k low =
-      let t = charted.stands k (omega (arith, read.legs)) in
-      leg-there s (net_in s).places (get_or chart k 0) (leg_of s k) t.0 t.1
-
-  pub leg-sound : (k : ℕ) → k < size.legs → SoundLeg (net_in s).places (leg_of s k)
-  leg-sound k low = sound-in s size h.sound k low
+    pub leg-sound : SoundLeg (net_in t.net.now).places (leg_in t.net.now k)
+    leg-sound = sound-in t.net.now t.size t.sound k low
 
 pub in_order : (places : ℕ) (l : Leg) → SoundLeg places l → InOrder l
 in_order places l s = record {

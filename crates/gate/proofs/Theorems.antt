@@ -5,7 +5,7 @@ use mathlib.Core.Path.{◌≡◌, refl, sym, ◌∙◌, ap, subst}
 use mathlib.Core.Logic.{inl, inr, ◌↔◌}
 use mathlib.Core.Option.{Option, some}
 use mathlib.Core.List.{List}
-use Rattle.answer.specs.declared.Answer.{Answer}
+use Rattle.std.specs.Prelude.{Ok, Err}
 use Rattle.answer.specs.declared.Refusal.{Refusal}
 use Rattle.source.specs.Source.{file_of}
 use Rattle.network.specs.Reading.{Found, refused, found}
@@ -16,18 +16,17 @@ use Rattle.plan.specs.Plan.{Ride, cost, Feasible}
 use Rattle.plan.specs.Sheet.{Step, value_at, Obeys, TightFor, OurSheet}
 use Rattle.plan.proofs.Values.{Falls, tight-least, tight-none}
 use Rattle.plan.proofs.Sheets.{sheet-falls, least-tight, our-sheet-obeys, our-sheet-none}
-use Rattle.plan_file.specs.PlanFile.{PlanFile}
-use Rattle.plan_file.proofs.Files.{one-plan}
+use Rattle.plan_file.specs.PlanFile.{PlanFile, stated}
+use Rattle.plan_file.proofs.Files.{one-plan, stated-none, stated-some}
 use Rattle.plan_reader.specs.InPlace.{Says}
 use Rattle.sheet_file.specs.SheetFile.{sheet_of}
 use Rattle.sheet_file.proofs.Found.{sheet-steps, sheet-size}
 use Rattle.chart.specs.Net.{theory}
 use Rattle.chart.proofs.Net.{sound-ranges}
-use Rattle.gate.specs.Gate.{Known, Costs, Holds, stated, OfSheet, OfPlan, OfFiles, OfNetwork, GateSays}
-use Rattle.gate.proofs.Sheets.{stated-none, stated-some}
+use Rattle.gate.specs.Gate.{GateAnswer, Known, Costs, Holds, OfSheet, OfPlan, OfFiles, OfNetwork, GateSays}
 
 -- done is no refusal
-done-not : {A : Type 0} (why : Refusal) → Answer.Done 0 ≡ Answer.Refused why → A
+done-not : {A : Type 0} (why : Refusal) → ◌≡◌ {A = GateAnswer} (Ok tt) (Err why) → A
 done-not why e = let z : ◌≡◌ {A = ℕ} 0 1 = cc in absurd (omega arith)
 
 -- what is so of the three files when the answer is 0: nothing that document 01 names applies
@@ -49,13 +48,13 @@ pub record Accepts (net plan sheet : List ℕ) : Type 0 where
 -- ---- 0 exactly when
 
 module _ (net plan sheet : List ℕ) where
-  accepted : GateSays net plan sheet (Answer.Done 0) → Accepts net plan sheet
+  accepted : GateSays net plan sheet (Ok tt) → Accepts net plan sheet
   accepted g = of-network (of_file net) refl g
     where
       of-sheet : (n : NetworkFile) (end : ℕ) → of_file net ≡ found n end → (f : PlanFile) → Says plan f → Known n.places f.query
           → f.query.earliest ≤ f.query.latest → Holds (theory n) f
           → (x : Found (List (List Step))) → sheet_of n.places f.query sheet ≡ x
-          → OfSheet (Answer.Done 0) (theory n) f.query (stated f) x
+          → OfSheet (Ok tt) (theory n) f.query (stated f) x
           → Accepts net plan sheet
       of-sheet n end is f s k w h (refused why) at e = done-not Refusal.SheetFile e
       of-sheet n end is f s k w h (found ss last) at (inr (no-rules, e)) = done-not Refusal.Rules e
@@ -76,41 +75,41 @@ module _ (net plan sheet : List ℕ) where
         tight = t;
       }
 
-      of-plan : (n : NetworkFile) (end : ℕ) → of_file net ≡ found n end → (f : PlanFile) → Says plan f → OfPlan (Answer.Done 0) n f sheet
+      of-plan : (n : NetworkFile) (end : ℕ) → of_file net ≡ found n end → (f : PlanFile) → Says plan f → OfPlan (Ok tt) n f sheet
           → Accepts net plan sheet
       of-plan n end is f s (inr (x, e)) = done-not Refusal.Query e
       of-plan n end is f s (inl (k, inr (x, e))) = done-not Refusal.Window e
       of-plan n end is f s (inl (k, inl (w, inr (x, e)))) = done-not Refusal.Plan e
       of-plan n end is f s (inl (k, inl (w, inl (h, o)))) = of-sheet n end is f s k w h (sheet_of n.places f.query sheet) refl o
 
-      of-network : (x : Found NetworkFile) → of_file net ≡ x → OfNetwork (Answer.Done 0) x plan sheet → Accepts net plan sheet
+      of-network : (x : Found NetworkFile) → of_file net ≡ x → OfNetwork (Ok tt) x plan sheet → Accepts net plan sheet
       of-network (refused why) is e = done-not why e
       of-network (found n end) is (inr (x, e)) = done-not Refusal.PlanFile e
       of-network (found n end) is (inl (f, s, o)) = of-plan n end is f s o
 
-  accepts : (r : Answer) → GateSays net plan sheet r → Accepts net plan sheet → r ≡ Answer.Done 0
+  accepts : (r : GateAnswer) → GateSays net plan sheet r → Accepts net plan sheet → r ≡ Ok tt
   accepts r g a = of-files (subst (λ x. OfNetwork r x plan sheet) a.network_is g)
     where
-      of-sheet : OfSheet r (theory a.network) a.file.query (stated a.file) (found a.steps a.steps_end) → r ≡ Answer.Done 0
+      of-sheet : OfSheet r (theory a.network) a.file.query (stated a.file) (found a.steps a.steps_end) → r ≡ Ok tt
       of-sheet (inr (x, e)) = absurd (x a.obeys)
       of-sheet (inl (o, inr (x, e))) = absurd (x a.tight)
       of-sheet (inl (o, inl (t, e))) = e
 
-      of-plan : OfPlan r a.network a.file sheet → r ≡ Answer.Done 0
+      of-plan : OfPlan r a.network a.file sheet → r ≡ Ok tt
       of-plan (inr (x, e)) = absurd (x a.known)
       of-plan (inl (k, inr (x, e))) = absurd (x a.window)
       of-plan (inl (k, inl (w, inr (x, e)))) = absurd (x a.holds)
       of-plan (inl (k, inl (w, inl (h, o)))) =
           of-sheet (subst (λ x. OfSheet r (theory a.network) a.file.query (stated a.file) x) a.steps_is o)
 
-      of-files : OfFiles r a.network plan sheet → r ≡ Answer.Done 0
+      of-files : OfFiles r a.network plan sheet → r ≡ Ok tt
       of-files (inr (x, e)) = absurd (x a.file a.says)
       of-files (inl (f, s, o)) =
           of-plan (subst (λ (g : PlanFile). OfPlan r a.network g sheet) (one-plan f a.file plan s.file a.says.file) o)
 
   -- THE GATE ANSWERS 0 EXACTLY WHEN the plan is feasible with its stated cost, or is "none", the sheet obeys the rules, and it is tight
-  pub zero-when : (r : Answer) → GateSays net plan sheet r → (r ≡ Answer.Done 0) ↔ Accepts net plan sheet
-  zero-when r g = (λ e. accepted (subst (λ (x : Answer). GateSays net plan sheet x) e g), accepts r g)
+  pub zero-when : (r : GateAnswer) → GateSays net plan sheet r → (r ≡ Ok tt) ↔ Accepts net plan sheet
+  zero-when r g = (λ e. accepted (subst (λ (x : GateAnswer). GateSays net plan sheet x) e g), accepts r g)
 
 -- ---- accepted means cheapest
 
@@ -155,8 +154,8 @@ module _ (net plan sheet : List ℕ) (a : Accepts net plan sheet) where
 module _ (net plan sheet : List ℕ) (n : NetworkFile) (end : ℕ) (is : of_file net ≡ found n end) (f : PlanFile) (says : Says plan f)
     (known : Known n.places f.query) (window : f.query.earliest ≤ f.query.latest)
     (steps : List (List Step)) (last : ℕ) (steps_is : sheet_of n.places f.query sheet ≡ found steps last) (ours : OurSheet (theory n) f.query steps)
-    (r : Answer) (g : GateSays net plan sheet r) where
-  all : Holds (theory n) f → TightFor f.query (value_at steps) (stated f) → r ≡ Answer.Done 0
+    (r : GateAnswer) (g : GateSays net plan sheet r) where
+  all : Holds (theory n) f → TightFor f.query (value_at steps) (stated f) → r ≡ Ok tt
   all h t =
       (zero-when net plan sheet r g).1 (record {
         network = n;
@@ -177,14 +176,14 @@ module _ (net plan sheet : List ℕ) (n : NetworkFile) (end : ℕ) (is : of_file
   -- WITH OUR SHEET each feasible plan of least cost that states that cost is accepted, whoever made it
   pub least-accepted : f.verdict ≡ 1 → Costs (theory n) f
       → ((other : List Ride) → Feasible (theory n) f.query other → cost (theory n) f.rides ≤ cost (theory n) other)
-      → r ≡ Answer.Done 0
+      → r ≡ Ok tt
   least-accepted v c least =
       all (λ _. c)
       (least-tight (theory n) f.query (askable net n end f.query is known window) (value_at steps) ours.costs f.rides c.feasible least
       ∙ ap some c.sum ∙ sym (stated-some f.verdict f.price (λ z. omega arith)))
 
   -- and "none" whenever that is true
-  pub none-accepted : f.verdict ≡ 0 → ((other : List Ride) → Feasible (theory n) f.query other → ⊥) → r ≡ Answer.Done 0
+  pub none-accepted : f.verdict ≡ 0 → ((other : List Ride) → Feasible (theory n) f.query other → ⊥) → r ≡ Ok tt
   none-accepted v never =
       all (λ one. absurd (omega arith))
       (our-sheet-none (theory n) f.query (askable net n end f.query is known window) steps ours never
@@ -193,7 +192,7 @@ module _ (net plan sheet : List ℕ) (n : NetworkFile) (end : ℕ) (is : of_file
 -- ---- one answer
 
 -- THE PROMISE DETERMINES THE ANSWER on every input
-pub one_answer : (net plan sheet : List ℕ) (r r' : Answer) → GateSays net plan sheet r → GateSays net plan sheet r' → r ≡ r'
+pub one_answer : (net plan sheet : List ℕ) (r r' : GateAnswer) → GateSays net plan sheet r → GateSays net plan sheet r' → r ≡ r'
 one_answer net plan sheet r r' g g' = of-network (of_file net) g g'
   where
     of-sheet : (N : Network) (q : Query) (c : Option Cents) (x : Found (List (List Step))) → OfSheet r N q c x → OfSheet r' N q c x → r ≡ r'

@@ -1,20 +1,14 @@
 -- What the gate's parts decide.
-use Rattle.std.specs.Prelude.{ℕ, ◌+◌, ◌≤◌, ◌<◌, ◌≡◌, true, List, get_or}
+use Rattle.std.specs.Prelude.{ℕ, ◌+◌, ◌*◌, ◌≤◌, ◌<◌, ◌≡◌, List, get_or, Option, Some, None}
 use Rattle.std.proofs.Math.Option.{some}
-use Rattle.leg.specs.declared.Leg.{Leg}
 use Rattle.network.specs.Reading.{Found}
-use Rattle.network.specs.Network.{of_file}
-use Rattle.network.specs.declared.NetworkFound.{NetworkFound}
-use Rattle.network.specs.declared.Size.{Size}
-use Rattle.network.specs.Answers.{network_found}
-use Rattle.chart.specs.Chart.{Chart}
-use Rattle.chart.specs.Net.{net_in}
-use Rattle.plan.specs.Network.{Minute, Network, Query}
-use Rattle.plan.specs.Plan.{Ride, arrives}
-use Rattle.plan.specs.Legs.{no_leg}
+use Rattle.chart.specs.Net.{net_in, leg_in}
+use Rattle.plan.specs.Network.{Minute, Cents, Network, Query}
+use Rattle.plan.specs.Plan.{Ride, arrives, place, arrival, cost, Runs}
 use Rattle.plan.specs.Sheet.{Step, value}
 use Rattle.plan_file.specs.declared.Query.{Query as QueryStruct}
-use Rattle.rule_b.specs.Rule.{Is, RuleB}
+use Rattle.plan_reader.specs.InPlace.{rides_at}
+use Rattle.rule_b.specs.Rule.{RuleB}
 use Rattle.rule_b.specs.Cursor.{PlaceAsked}
 use Rattle.sheet_file.specs.InPlace.{place_at}
 use Rattle.sheet_file.specs.Window.{window}
@@ -22,24 +16,43 @@ use Rattle.gate.specs.declared.State.{State}
 use Rattle.sheet_file.specs.SheetFile.{sheet_of}
 use Rattle.gate.specs.Gate.{Known}
 
--- a sound network file, its size and its chart
-pub record KnownFile (s : List ℕ) (size : Size) (chart : List ℕ) : Type 0 where
-  pub sound : network_found (of_file s) ≡ NetworkFound.Sound size
-  pub charted : Chart s chart
-
 -- a ride may be boarded at this place from this minute on
 pub record Boards (N : Network) (place : ℕ) (time : Minute) (r : Ride) : Type 0 where
   pub known : r.leg < N.legs
   pub here : N.source r.leg ≡ place
   pub after : time ≤ r.leave
 
--- one ride further: it may be boarded, and then this is where, when and at what cost one stands
+-- one ride further: it may be boarded, and this is where, when and at what cost one then stands
 pub record Rode (N : Network) (r : Ride) (old new : State) : Type 0 where
-  pub boards : Is new.on (Boards N old.place old.time.0 r)
-  pub place : new.on ≡ true → new.place ≡ N.target r.leg
-  pub time : new.on ≡ true → new.time.0 ≡ arrives N r
-  pub cost : new.on ≡ true → new.cost.0 ≡ old.cost.0 + N.toll r.leg r.leave
+  pub boards : Boards N old.place old.time.0 r
+  pub place : new.place ≡ N.target r.leg
+  pub time : new.time.0 ≡ arrives N r
+  pub cost : new.cost.0 ≡ old.cost.0 + N.toll r.leg r.leave
   pub near : new.cost.0 ≤ old.cost.0 + 65535
+
+-- a ride leads on exactly where it may be boarded
+abbrev pub RodeTo : Network → Ride → State → Option State → Type 0
+RodeTo N r old (Some new) = Rode N r old new
+RodeTo N r old None = Boards N old.place old.time.0 r → ⊥
+
+-- the first k rides chain, and this is where, when and at what cost they end
+pub record Riding (N : Network) (q : Query) (s : List ℕ) (k : ℕ) (state : State) : Type 0 where
+  pub runs : Runs N q (rides_at s k)
+  pub place_is : state.place ≡ place N q (rides_at s k)
+  pub time_is : state.time.0 ≡ arrival N q (rides_at s k)
+  pub cost_is : state.cost.0 ≡ cost N (rides_at s k)
+  pub near : state.cost.0 ≤ 65535 * k
+
+-- the first k rides lead somewhere exactly where they chain
+abbrev pub Ridden : Network → Query → List ℕ → ℕ → Option State → Type 0
+Ridden N q s k (Some state) = Riding N q s k state
+Ridden N q s k None = Runs N q (rides_at s k) → ⊥
+
+-- at the end, in time, at this cost
+pub record Arrived (q : Query) (price : Cents) (state : State) : Type 0 where
+  pub there : state.place ≡ q.end
+  pub by : state.time.0 ≤ q.latest
+  pub sum : state.cost.0 ≡ price
 
 -- a query that the gate goes on with
 pub record Asked (s : List ℕ) (q : Query) : Type 0 where
@@ -56,14 +69,10 @@ pub record Placed (s : List ℕ) (places : ℕ) (q : Query) (index : List ℕ) :
   pub each : (p : ℕ) → p < places → PlaceAsked s (get_or index p 0) q
   pub end : q.latest ≤ 2879
 
--- leg k of the network that bytes stand for
-abbrev pub leg_of : List ℕ → ℕ → Leg
-leg_of s k = get_or (net_in s).legs k no_leg
-
 -- rule (b) for leg k, over the steps where they stand
 abbrev pub RuleOf : List ℕ → List ℕ → List ℕ → Minute → ℕ → Type 0
 RuleOf net s index latest k =
-    RuleB latest (leg_of net k) (place_at s (get_or index (leg_of net k).from 0)) (place_at s (get_or index (leg_of net k).to 0))
+    RuleB latest (leg_in net k) (place_at s (get_or index (leg_in net k).from 0)) (place_at s (get_or index (leg_in net k).to 0))
 
 -- rule (b) for the first `legs` legs
 abbrev pub RulesOf : List ℕ → List ℕ → List ℕ → Minute → ℕ → Type 0

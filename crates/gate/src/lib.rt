@@ -1,38 +1,39 @@
 // The gate: a plan and a sheet that anybody may have written are judged against a network.
 #![tactic(auto)]
 
-ghost use Rattle.std.specs.Prelude.{◌≡◌, ◌+◌, ◌*◌, ◌≤◌, ◌<◌, false, length};
-ghost use Rattle.network.specs.declared.NetworkFound.{NetworkFound};
+ghost use Rattle.std.specs.Prelude.{◌≡◌, ◌+◌, ◌*◌, ◌≤◌, ◌<◌, Ok, length};
 ghost use Rattle.network.specs.Network.{of_file};
 ghost use Rattle.network.specs.Answers.{network_found};
 ghost use Rattle.plan_file.specs.PlanFile.{query_of};
+ghost use Rattle.leg.specs.Price.{price_of};
 ghost use Rattle.plan_reader.specs.InPlace.{ride_at, file_at, Says, Headed};
 ghost use Rattle.std.proofs.Math.Option.{some};
 ghost use Rattle.plan.specs.Sheet.{value};
 ghost use Rattle.sheet_file.specs.InPlace.{place_at};
-ghost use Rattle.sheet_file.specs.Window.{window};
+ghost use Rattle.sheet_file.specs.Window.{of_window};
 ghost use Rattle.rule_b.specs.Rule.{Is};
 ghost use Rattle.rule_b.specs.Cursor.{PlaceAsked};
-ghost use Rattle.rule_cards.specs.Cards.{LaidOut};
 ghost use Rattle.chart.specs.Net.{net_in, theory_in};
-ghost use Rattle.gate.specs.Gate.{Known, Holds, stated_cost, OfSheet, OfPlan, OfFiles, GateSays};
-ghost use Rattle.gate.specs.Parts.{sheet_at, window_of, KnownFile, Rode, Asked, Placed, RuleOf, RulesOf, Ruled};
+ghost use Rattle.gate.specs.Gate.{Known, Holds, OfSheet, OfPlan, OfFiles, GateSays};
+ghost use Rattle.gate.specs.Parts.{sheet_at, window_of, RodeTo, Ridden, Arrived, Asked, Placed, RuleOf, RulesOf, Ruled};
 
-use answer::{Answer, Refusal};
+use answer::Refusal;
+use chart::Tariff;
 use leg::{Cents, Minute};
-use network::{NetworkFound, Size};
+use network::Size;
 use plan_file::Query;
 use plan_reader::Plan;
-use source::Origin;
+use rule_cards::LaidSheet;
+use sheet_file::Window;
+use source::File;
 
 // A sum of cents, which 32 bits might not hold.
 #[derive(Clone, Copy)]
 pub struct Total(pub u64);
 
-// Where a plan stands after some of its rides, when, and at what cost; `on` is false once a ride could not be boarded.
+// Where a plan stands after some of its rides, when, and at what cost.
 #[derive(Clone, Copy)]
 pub struct State {
-    pub on: bool,
     pub place: u32,
     pub time: Minute,
     pub cost: Total,
@@ -42,304 +43,219 @@ pub struct State {
 fn known(places: u32, query: Query) -> bool
     ensures { Is result (Known places (query_of query)) }
 {
-    if places <= query.start {
-        return false;
-    }
-    if places <= query.end {
-        return false;
-    }
-    if Minute::LAST < query.earliest.0 {
-        return false;
-    }
-    query.latest.0 <= Minute::LAST
+    query.start < places
+        && query.end < places
+        && query.earliest.0 <= Minute::LAST
+        && query.latest.0 <= Minute::LAST
 }
 
-// The ride that could not be boarded.
-fn off(state: State) -> State
-    ensures { result ≡ record { on = false; place = state.place; time = state.time; cost = state.cost } }
+// One ride of a plan further, if it can be boarded.
+fn ride(tariff: &Tariff, plan: &[u8], k: usize, state: State) -> Option<State>
+    requires { (89 + 21 * (k + 1) ≤ 8 * length plan.now) × (k ≤ 4096) × (state.cost.0 ≤ 1000000000) }
+    ensures { RodeTo (theory_in tariff.now.net.now) (ride_at plan.now k) state result }
 {
-    let time = state.time;
-    let cost = state.cost;
-    State {
-        on: false,
-        place: state.place,
-        time,
-        cost,
+    let (number, departure) = reader::pair(plan, 89 + 21 * k, 9, 12);
+    let number = number as usize;
+    let departure = Minute(departure);
+    if tariff.size.legs <= number {
+        return None;
     }
-}
-
-// One ride of a plan further.
-fn ride(net: &[u8], size: Size, chart: &[u32; 512], plan: &[u8], k: usize, state: State) -> State
-    requires { KnownFile net.now size chart.now × (89 + 21 * (k + 1) ≤ 8 * length plan.now) × (k ≤ 4096) × (state.cost.0 ≤ 1000000000) }
-    ensures { Rode (theory_in net.now) (ride_at plan.now k) state result }
-{
-    let said = reader::pair(plan, 89 + 21 * k, 9, 12);
-    let number = said.first as usize;
-    let departure = Minute(said.second);
-    if size.legs <= number {
-        return off(state);
-    }
-    let leg = chart::leg_at(net, size.places, chart[number]);
+    let leg = tariff.leg(number);
     if leg.from != state.place {
-        return off(state);
+        return None;
     }
-    let leaves = departure.0;
-    let arrived = state.time.0;
-    if leaves < arrived {
-        return off(state);
+    if departure.0 < state.time.0 {
+        return None;
     }
     let toll = leg.toll_at(departure);
-    let arrival = departure.0 + leg.time.0;
-    let cost = state.cost.0 + toll.0 as u64;
-    State {
-        on: true,
+    Some(State {
         place: leg.to,
-        time: Minute(arrival),
-        cost: Total(cost),
+        time: Minute(departure.0 + leg.time.0),
+        cost: Total(state.cost.0 + u64::from(toll.0)),
+    })
+}
+
+// Where the first rides of a plan lead, if each can be boarded.
+fn ridden(tariff: &Tariff, plan: &[u8], query: Query, legs: usize) -> Option<State>
+    requires { (legs ≤ 63) × (89 + 21 * legs ≤ 8 * length plan.now) }
+    ensures { Ridden (theory_in tariff.now.net.now) (query_of query) plan.now legs result }
+{
+    let mut state = State {
+        place: query.start,
+        time: query.earliest,
+        cost: Total(0),
+    };
+    for k in 0..legs {
+        state = ride(tariff, plan, k, state)?;
     }
+    Some(state)
+}
+
+// Does it end at the end, in time, at the cost that the plan states?
+fn arrived(state: State, query: Query, stated: Cents) -> bool
+    ensures { Is result (Arrived (query_of query) stated.0 state) }
+{
+    state.place == query.end
+        && state.time.0 <= query.latest.0
+        && state.cost.0 == u64::from(stated.0)
 }
 
 // Is the plan feasible, at the cost that it states? "None" states nothing.
-fn plan_holds(net: &[u8], size: Size, chart: &[u32; 512], plan: &[u8], read: Plan) -> bool
-    requires { KnownFile net.now size chart.now × Says plan.now (file_at plan.now) × Headed plan.now read }
-    ensures { Is result (Holds (theory_in net.now) (file_at plan.now)) }
+fn plan_holds(tariff: &Tariff, plan: &[u8], read: Plan) -> bool
+    requires { Says plan.now (file_at plan.now) × Headed plan.now read }
+    ensures { Is result (Holds (theory_in tariff.now.net.now) (file_at plan.now)) }
 {
-    if read.verdict == 0 {
+    let Some(stated) = read.stated else {
         return true;
-    }
-    let query = read.query;
-    let legs = read.legs;
-    let earliest = query.earliest;
-    let mut state = State {
-        on: true,
-        place: query.start,
-        time: earliest,
-        cost: Total(0),
     };
-    let mut k = 0;
-    while k < legs {
-        state = ride(net, size, chart, plan, k, state);
-        if !state.on {
-            return false;
-        }
-        k += 1;
+    let query = read.query;
+    match ridden(tariff, plan, query, read.legs) {
+        Some(state) => arrived(state, query, stated),
+        None => false,
     }
-    let place = state.place;
-    let end = query.end;
-    if place != end {
-        return false;
-    }
-    let latest = query.latest.0;
-    let time = state.time.0;
-    if latest < time {
-        return false;
-    }
-    let stated = read.cost.0 as u64;
-    let cost = state.cost.0;
-    cost == stated
 }
 
 // Rule (a): does the place have the value 0 at earliest?
-fn starts(sheet: &[u8], place: u32, earliest: Minute, latest: Minute) -> bool
-    requires { PlaceAsked sheet.now place (window earliest.0 latest.0) × (earliest.0 < 4096) }
-    ensures { Is result (value (place_at sheet.now place) earliest.0 ≡ some 0) }
+fn starts(sheet: &[u8], place: u32, window: Window) -> bool
+    requires { PlaceAsked sheet.now place (of_window window) × (window.earliest.0 < 4096) }
+    ensures { Is result (value (place_at sheet.now place) window.earliest.0 ≡ some 0) }
 {
-    let first = rule_b::value_at(sheet, place, earliest, earliest, latest);
-    if !first.has {
+    let Some(first) = rule_b::value_at(sheet, place, window.earliest, window) else {
         return false; // no value at all
-    }
-    first.price.0 == 0
+    };
+    first.0 == 0
 }
 
-// Rule (b) for leg k, with the steps of the places on cards.
-fn leg_rules(
-    net: &[u8],
-    size: Size,
-    chart: &[u32; 512],
-    sheet: &[u8],
-    index: &[u32; 64],
-    minutes: &[u32],
-    prices: &[u32],
-    k: usize,
-    earliest: Minute,
-    latest: Minute,
-) -> bool
-    requires { KnownFile net.now size chart.now × Placed sheet.now size.places (window earliest.0 latest.0) index.now × (k < size.legs)
-        × LaidOut sheet.now size.places index.now minutes.now prices.now }
-    ensures { Is result (RuleOf net.now sheet.now index.now latest.0 k) }
+// Rule (b) for leg k, read where it stands, with the steps of the places on cards.
+fn leg_rules(tariff: &Tariff, laid: LaidSheet<'_>, k: usize, window: Window) -> bool
+    requires { Placed laid.sheet.now tariff.now.size.places (of_window window) laid.index.now × (laid.places ≡ tariff.now.size.places) × (k < tariff.now.size.legs) }
+    ensures { Is result (RuleOf tariff.now.net.now laid.entry.sheet.now laid.entry.index.now window.latest.0 k) }
 {
-    let leg = chart[k] as usize;
-    let from = reader::field(net, leg, 6) as usize;
-    let to = reader::field(net, leg + 6, 6) as usize;
+    let leg = tariff.chart[k] as usize;
+    let from = reader::field(tariff.net, leg, 6) as usize;
+    let to = reader::field(tariff.net, leg + 6, 6) as usize;
     rule_cards::leg_obeys(
-        net,
+        tariff.net,
         leg,
-        sheet,
-        index[from],
-        index[to],
-        minutes,
-        prices,
-        from,
-        to,
-        earliest,
-        latest,
+        laid.sheet,
+        laid.place(from),
+        laid.place(to),
+        window,
     )
 }
 
 // Rule (b) for every leg.
-fn legs_rule(
-    net: &[u8],
-    size: Size,
-    chart: &[u32; 512],
-    sheet: &[u8],
-    index: &[u32; 64],
-    minutes: &[u32],
-    prices: &[u32],
-    earliest: Minute,
-    latest: Minute,
-) -> bool
-    requires { KnownFile net.now size chart.now × Placed sheet.now size.places (window earliest.0 latest.0) index.now
-        × LaidOut sheet.now size.places index.now minutes.now prices.now }
-    ensures { Is result (RulesOf net.now sheet.now index.now latest.0 size.legs) }
+fn legs_rule(tariff: &Tariff, laid: LaidSheet<'_>, window: Window) -> bool
+    requires { Placed laid.sheet.now tariff.now.size.places (of_window window) laid.index.now × (laid.places ≡ tariff.now.size.places) }
+    ensures { Is result (RulesOf tariff.now.net.now laid.entry.sheet.now laid.entry.index.now window.latest.0 tariff.now.size.legs) }
 {
-    let legs = size.legs;
-    let mut k = 0;
-    while k < legs {
-        if !leg_rules(
-            net, size, chart, sheet, index, minutes, prices, k, earliest, latest,
-        ) {
-            return false;
-        }
-        k += 1;
-    }
-    true
+    (0..tariff.size.legs).all(|k| leg_rules(tariff, laid, k, window))
 }
 
 // Both rules.
-fn obeys(
-    net: &[u8],
-    size: Size,
-    chart: &[u32; 512],
-    sheet: &[u8],
-    index: &[u32; 64],
-    query: Query,
-) -> bool
-    requires { KnownFile net.now size chart.now × Placed sheet.now size.places (window_of query) index.now × (query.start < size.places) × (query.earliest.0 ≤ 2879) }
-    ensures { Is result (Ruled net.now sheet.now index.now size.legs (query_of query)) }
+fn obeys(tariff: &Tariff, sheet: &[u8], index: &[u32; 64], query: Query) -> bool
+    requires { Placed sheet.now tariff.now.size.places (window_of query) index.now × (query.start < tariff.now.size.places) × (query.earliest.0 ≤ 2879) }
+    ensures { Is result (Ruled tariff.now.net.now sheet.now index.now tariff.now.size.legs (query_of query)) }
 {
-    let earliest = query.earliest;
-    let latest = query.latest;
+    let window = Window {
+        earliest: query.earliest,
+        latest: query.latest,
+    };
     let start = query.start as usize;
-    if !starts(sheet, index[start], earliest, latest) {
+    if !starts(sheet, index[start], window) {
         return false;
     }
+    let places = tariff.size.places as usize;
     let mut minutes = [Minute::NEVER; 1024];
     let mut prices = [0u32; 1024];
-    rule_cards::lay(
+    rule_cards::lay(sheet, index, places, &mut minutes, &mut prices);
+    let laid = LaidSheet {
         sheet,
         index,
-        size.places as usize,
-        &mut minutes,
-        &mut prices,
-    );
-    legs_rule(
-        net, size, chart, sheet, index, &minutes, &prices, earliest, latest,
-    )
+        places,
+        minutes: &minutes,
+        prices: &prices,
+    };
+    legs_rule(tariff, laid, window)
 }
 
 // Is the place's value at latest the stated cost, or is there none for "none"?
-fn tight(
-    sheet: &[u8],
-    place: u32,
-    earliest: Minute,
-    latest: Minute,
-    verdict: u32,
-    cost: Cents,
-) -> bool
-    requires { PlaceAsked sheet.now place (window earliest.0 latest.0) × (latest.0 < 4096) }
-    ensures { Is result (value (place_at sheet.now place) latest.0 ≡ stated_cost verdict cost.0) }
+fn tight(sheet: &[u8], place: u32, window: Window, stated: Option<Cents>) -> bool
+    requires { PlaceAsked sheet.now place (of_window window) × (window.latest.0 < 4096) }
+    ensures { Is result (value (place_at sheet.now place) window.latest.0 ≡ price_of stated) }
 {
-    let last = rule_b::value_at(sheet, place, latest, earliest, latest);
-    if verdict == 0 {
-        return !last.has;
-    }
-    if !last.has {
+    let last = rule_b::value_at(sheet, place, window.latest, window);
+    let Some(cost) = stated else {
+        return last.is_none();
+    };
+    let Some(last) = last else {
         return false;
-    }
-    last.price.0 == cost.0
+    };
+    last.0 == cost.0
 }
 
 // The sheet, after the plan.
-fn judge_sheet(net: &[u8], size: Size, chart: &[u32; 512], sheet: &[u8], read: Plan) -> Answer
-    requires { KnownFile net.now size chart.now × Asked net.now (query_of read.query) }
-    ensures { OfSheet result (theory_in net.now) (query_of read.query) (stated_cost read.verdict read.cost.0) (sheet_at net.now sheet.now (query_of read.query)) }
+fn judge_sheet(tariff: &Tariff, sheet: &[u8], read: Plan) -> Result<(), Refusal>
+    requires { Asked tariff.now.net.now (query_of read.query) }
+    ensures { OfSheet result (theory_in tariff.now.net.now) (query_of read.query) (price_of read.stated) (sheet_at tariff.now.net.now sheet.now (query_of read.query)) }
 {
     let query = read.query;
-    let earliest = query.earliest;
-    let latest = query.latest;
-    let found = sheet_file::sheet_from(sheet, size.places, earliest, latest);
-    if !found.sound {
-        return Answer::Refused(Refusal::SheetFile);
-    }
-    let index = found.index;
-    if !obeys(net, size, chart, sheet, &index, query) {
-        return Answer::Refused(Refusal::Rules);
+    let window = Window {
+        earliest: query.earliest,
+        latest: query.latest,
+    };
+    let index = sheet_file::sheet_from(sheet, tariff.size.places, window).ok_or(
+        Refusal::SheetFile,
+    )?;
+    if !obeys(tariff, sheet, &index, query) {
+        return Err(Refusal::Rules);
     }
     let end = query.end as usize;
-    let cost = read.cost;
-    if !tight(sheet, index[end], earliest, latest, read.verdict, cost) {
-        return Answer::Refused(Refusal::Loose);
+    if !tight(sheet, index[end], window, read.stated) {
+        return Err(Refusal::Loose);
     }
-    Answer::Done(0)
+    Ok(())
 }
 
 // The query and the plan, then the sheet.
-fn judge_plan(net: &[u8], size: Size, sheet: &[u8], plan: &[u8], read: Plan) -> Answer
-    requires { (network_found (of_file net.now) ≡ NetworkFound.Sound size) × Says plan.now (file_at plan.now) × Headed plan.now read }
+fn judge_plan(net: &[u8], size: Size, sheet: &[u8], plan: &[u8], read: Plan) -> Result<(), Refusal>
+    requires { (network_found (of_file net.now) ≡ Ok size) × Says plan.now (file_at plan.now) × Headed plan.now read }
     ensures { OfPlan result (net_in net.now) (file_at plan.now) sheet.now }
 {
     let query = read.query;
     if !known(size.places, query) {
-        return Answer::Refused(Refusal::Query);
+        return Err(Refusal::Query);
     }
     if query.latest.0 < query.earliest.0 {
-        return Answer::Refused(Refusal::Window);
+        return Err(Refusal::Window);
     }
-    let chart = chart::chart(net, size);
-    if !plan_holds(net, size, &chart, plan, read) {
-        return Answer::Refused(Refusal::Plan);
+    let tariff = Tariff::of(net, size);
+    if !plan_holds(&tariff, plan, read) {
+        return Err(Refusal::Plan);
     }
-    judge_sheet(net, size, &chart, sheet, read)
+    judge_sheet(&tariff, sheet, read)
 }
 
 // The plan file, after the network.
-fn judge_files(net: &[u8], size: Size, plan: &[u8], sheet: &[u8]) -> Answer
-    requires { network_found (of_file net.now) ≡ NetworkFound.Sound size }
+fn judge_files(net: &[u8], size: Size, plan: &[u8], sheet: &[u8]) -> Result<(), Refusal>
+    requires { network_found (of_file net.now) ≡ Ok size }
     ensures { OfFiles result (net_in net.now) plan.now sheet.now }
 {
-    let read = plan_reader::plan_from(plan);
-    if !read.sound {
-        return Answer::Refused(Refusal::PlanFile);
-    }
+    let read = plan_reader::plan_from(plan).ok_or(Refusal::PlanFile)?;
     judge_plan(net, size, sheet, plan, read)
 }
 
 // The network, then the other files.
-fn judge(net: &[u8], plan: &[u8], sheet: &[u8]) -> Answer
+fn judge(net: &[u8], plan: &[u8], sheet: &[u8]) -> Result<(), Refusal>
     ensures { GateSays net.now plan.now sheet.now result }
 {
-    let no_list = [0u32; 1];
-    let found = network::network_from(Origin::File, net, &no_list);
-    match found {
-        NetworkFound::Refused(why) => Answer::Refused(why),
-        NetworkFound::Sound(size) => judge_files(net, size, plan, sheet),
-    }
+    let size = network::network_from(&File(net))?;
+    judge_files(net, size, plan, sheet)
 }
 
 // The gate: is the plan feasible at the cost that it states, and does the sheet prove that no plan costs less? Nothing is written.
-pub fn gate(net: &[u8], plan: &[u8], sheet: &[u8]) -> Answer
+pub fn gate(net: &[u8], plan: &[u8], sheet: &[u8]) -> Result<(), Refusal>
     ensures { GateSays net.now plan.now sheet.now result }
 {
-    let answer = judge(net, plan, sheet);
-    answer
+    judge(net, plan, sheet)
 }

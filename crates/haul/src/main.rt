@@ -4,21 +4,6 @@
 ghost use Rattle.std.specs.Prelude.{◌≤◌, length};
 
 use std::io;
-use std::io::Read;
-
-// Reads until the buffer is full, the input ends or a read fails, and returns how many bytes stand at the front.
-fn read_full(reader: &mut impl Read, buffer: &mut [u8]) -> usize
-    ensures { result ≤ length buffer.new }
-{
-    let mut done = 0;
-    while done < buffer.len() {
-        match reader.read(&mut buffer[done..]) {
-            Ok(count) if count > 0 => done += count,
-            _ => break,
-        }
-    }
-    done
-}
 
 fn run<R: Input + Print>(
     rt: &R,
@@ -29,7 +14,7 @@ fn run<R: Input + Print>(
 ) -> io::Result<()>
     requires { (177 ≤ length plan.old) × (4096 ≤ length text.old) }
 {
-    let size = read_full(&mut rt.reader(), input);
+    let size = input::read_full(&mut rt.reader(), input);
     let written = report::report(&input[..size], table, plan, text);
     Print::write_all(rt, &text[..written])
 }

@@ -1,12 +1,9 @@
 -- What a minute, a toll and a leg's bands may hold (document 01, "Networks, plans, costs").
-use Rattle.std.specs.Prelude.{ℕ, Bool, true, false, List, leb, replicate}
+use Rattle.std.specs.Prelude.{ℕ, Bool, true, false, List, Option, Some, None, leb, replicate, ◌&&◌}
 use Rattle.leg.specs.declared.Minute.{Minute}
 use Rattle.leg.specs.declared.Cents.{Cents}
 use Rattle.leg.specs.declared.Band.{Band}
 use Rattle.leg.specs.declared.Leg.{Leg}
-use Rattle.leg.specs.declared.MinuteFound.{MinuteFound}
-use Rattle.leg.specs.declared.CentsFound.{CentsFound}
-use Rattle.leg.specs.declared.CountFound.{CountFound}
 
 -- time is whole minutes, 0 to this one
 abbrev pub last_minute : ℕ
@@ -28,33 +25,22 @@ minute n = record { 0 = n }
 abbrev pub cents : ℕ → Cents
 cents n = record { 0 = n }
 
--- a minute that passed its test, or not
-abbrev pub pick_minute : Bool → ℕ → MinuteFound
-pick_minute true n = MinuteFound.Within (minute n)
-pick_minute false n = MinuteFound.Beyond
+-- what passed its test, or nothing
+abbrev pub some_if : {A : Type 0} → Bool → A → Option A
+some_if true a = Some a
+some_if false a = None
 
 -- the minute n, if it is one
-abbrev pub minute_of : ℕ → MinuteFound
-minute_of n = pick_minute (leb n last_minute) n
-
--- a toll that passed its test, or not
-abbrev pub pick_cents : Bool → ℕ → CentsFound
-pick_cents true n = CentsFound.Within (cents n)
-pick_cents false n = CentsFound.Beyond
+abbrev pub minute_of : ℕ → Option Minute
+minute_of n = some_if (leb n last_minute) (minute n)
 
 -- a toll of n cents, if it is in range
-abbrev pub cents_of : ℕ → CentsFound
-cents_of n = pick_cents (leb n most_cents) n
-
--- a number of bands that passed both its tests, or not
-abbrev pub pick_count : Bool → Bool → ℕ → CountFound
-pick_count true true n = CountFound.Within n
-pick_count true false n = CountFound.Beyond
-pick_count false most n = CountFound.Beyond
+abbrev pub cents_of : ℕ → Option Cents
+cents_of n = some_if (leb n most_cents) (cents n)
 
 -- n bands, if a leg may have as many
-abbrev pub count_of : ℕ → CountFound
-count_of n = pick_count (leb 1 n) (leb n most_bands) n
+abbrev pub count_of : ℕ → Option ℕ
+count_of n = some_if (leb 1 n && leb n most_bands) n
 
 -- a band that starts at this minute and has this toll
 abbrev pub band_of : ℕ → ℕ → Band

@@ -20,7 +20,8 @@ pub struct Band {
     pub toll: Cents,
 }
 
-// A leg with its bands: the first `count` of the eight are the leg's, the others hold zeros.
+// A leg with its bands: the first `count` of the eight are the leg's, the others hold zeros. An array and a count: fixed memory, as
+// document 01 asks for it.
 #[derive(Clone, Copy)]
 pub struct Leg {
     pub from: u32,
@@ -30,26 +31,8 @@ pub struct Leg {
     pub count: usize,
 }
 
-#[derive(Clone, Copy)]
-pub enum MinuteFound {
-    Within(Minute),
-    Beyond,
-}
-
-#[derive(Clone, Copy)]
-pub enum CentsFound {
-    Within(Cents),
-    Beyond,
-}
-
-#[derive(Clone, Copy)]
-pub enum CountFound {
-    Within(usize),
-    Beyond,
-}
-
 impl Minute {
-    // A number of 13 bits, so that no field holds it: a minute that never comes.
+    // A number of 13 bits, so that no field holds it: a minute that never comes. No Option: cards count by adding it, without a branch.
     pub const NEVER: u32 = 4096;
 
     pub const LAST: u32 = 2879;
@@ -58,13 +41,13 @@ impl Minute {
     pub const COUNT: u32 = 2880;
 
     // The minute n, if it is one.
-    pub fn new(n: u32) -> MinuteFound
+    pub fn new(n: u32) -> Option<Minute>
         ensures { result ≡ minute_of n }
     {
         if n <= Minute::LAST {
-            MinuteFound::Within(Minute(n))
+            Some(Minute(n))
         } else {
-            MinuteFound::Beyond
+            None
         }
     }
 }
@@ -73,13 +56,13 @@ impl Cents {
     pub const MOST: u32 = 65535;
 
     // A toll of n cents, if it is in range.
-    pub fn new(n: u32) -> CentsFound
+    pub fn new(n: u32) -> Option<Cents>
         ensures { result ≡ cents_of n }
     {
         if n <= Cents::MOST {
-            CentsFound::Within(Cents(n))
+            Some(Cents(n))
         } else {
-            CentsFound::Beyond
+            None
         }
     }
 }
@@ -114,16 +97,16 @@ impl Leg {
     pub const MOST_BANDS: u32 = 8;
 
     // n bands, if a leg may have as many.
-    pub fn band_count(n: u32) -> CountFound
+    pub fn band_count(n: u32) -> Option<usize>
         ensures { result ≡ count_of n }
     {
         if n < Leg::FEWEST_BANDS {
-            return CountFound::Beyond;
+            return None;
         }
         if Leg::MOST_BANDS < n {
-            return CountFound::Beyond;
+            return None;
         }
-        CountFound::Within(n as usize)
+        Some(n as usize)
     }
 
     // A leg of 1 to 8 bands, with a driving time that is in range.
@@ -159,16 +142,11 @@ impl Leg {
         requires { self.count ≤ 8 }
         ensures { result.0 ≡ toll_at self minute.0 }
     {
-        let bands = self.bands;
-        let count = self.count;
         let mut toll = Cents(0);
-        let mut k = 0;
-        while k < count {
-            let band = bands[k];
+        for band in &self.bands[..self.count] {
             if band.start.0 <= minute.0 {
                 toll = band.toll;
             }
-            k += 1;
         }
         toll
     }

@@ -8,7 +8,7 @@ use lib.ListN.{length, length-append}
 use Rattle.answer.specs.declared.Refusal.TheVariants.{Tail}
 use Rattle.leg.specs.declared.Leg.{Leg}
 use Rattle.source.specs.Source.{Source}
-use Rattle.network.specs.declared.NetworkFound.{NetworkFound}
+use Rattle.std.specs.Prelude.{Ok}
 use Rattle.network.specs.declared.Size.{Size}
 use Rattle.network.specs.declared.Top.{Top}
 use Rattle.network.specs.Reading.{Found, refused, found}
@@ -78,6 +78,6 @@ accepted form src net end e =
     subst (λ (n : Network). Accepted form src n end) (sym is) (subst (λ (m : ℕ). Accepted form src found-net m) (sym at-end) base)
 
 -- what the judging function's answer tells
-pub size-of-sound : (x : Found Network) (size : Size) → network_found x ≡ NetworkFound.Sound size → (net : Network) × (end : ℕ) × (x ≡ found net end) × (size ≡ size_of net)
+pub size-of-sound : (x : Found Network) (size : Size) → network_found x ≡ Ok size → (net : Network) × (end : ℕ) × (x ≡ found net end) × (size ≡ size_of net)
 size-of-sound (refused why) size e = let z : ◌≡◌ {A = ℕ} 0 1 = cc in absurd (omega arith)
 size-of-sound (found net end) size e = (net, end, refl, cc)

@@ -4,7 +4,7 @@ use mathlib.Core.Path.{◌≡◌, sym, ◌∙◌, subst}
 use mathlib.Core.List.{List, []}
 use native.Mathlib.Omega.{arith}
 use Rattle.source.specs.Source.{file_of}
-use Rattle.network.specs.declared.NetworkFound.{NetworkFound}
+use Rattle.std.specs.Prelude.{Ok}
 use Rattle.network.specs.declared.Size.{Size}
 use Rattle.network.specs.Reading.{found}
 use Rattle.network.specs.Network.{Network, edition1, legs, of_file}
@@ -20,7 +20,7 @@ pub record SoundFile (s : List ℕ) (size : Size) : Type 0 where
   pub legs_read : legs edition1 size.places size.legs [] (file_of s) 25 ≡ found net.legs end
   pub sound : SoundNetwork net
 
-pub sound-file : (s : List ℕ) (size : Size) → network_found (of_file s) ≡ NetworkFound.Sound size → SoundFile s size
+pub sound-file : (s : List ℕ) (size : Size) → network_found (of_file s) ≡ Ok size → SoundFile s size
 sound-file s size e =
     let f = size-of-sound (of_file s) size e in
     let a = accepted edition1 (file_of s) f.0 f.1 f.2 in

@@ -1,4 +1,5 @@
 -- A reading that found something went through each of its parts.
+use mathlib.Core.Bool.{◌&&◌}
 use Prim.Native.Nat.{ℕ, ◌≤◌}
 use mathlib.Core.Path.{◌≡◌, refl}
 use mathlib.Core.Bool.{Bool, true, false}
@@ -9,7 +10,7 @@ use Rattle.answer.specs.declared.Refusal.{Refusal}
 use Rattle.answer.specs.declared.Refusal.TheVariants.{Short, Edition, Range, Order}
 use Rattle.leg.specs.declared.Band.{Band}
 use Rattle.leg.specs.Ranges.{last_minute, most_cents, minute, band_of}
-use Rattle.source.specs.Source.{Source, both}
+use Rattle.source.specs.Source.{Source}
 use Rattle.source.proofs.Laws.{both_true}
 use Rattle.network.specs.declared.Head.{Head}
 use Rattle.network.specs.declared.Top.{Top}
@@ -82,7 +83,7 @@ module _ (src : Source) (at : ℕ) where
     pub time_there : src.has 12 (src.after 6 (src.after 6 at)) ≡ true
     pub time_within : leb (src.value 12 (src.after 6 (src.after 6 at))) last_minute ≡ true
     pub count_there : src.has form.count_width (src.after 12 (src.after 6 (src.after 6 at))) ≡ true
-    pub count_within : both (leb 1 h.count) (leb h.count form.most_bands) ≡ true
+    pub count_within : ◌&&◌ (leb 1 h.count) (leb h.count form.most_bands) ≡ true
     pub head_is : h
         ≡ record {
           from = src.value 6 at;
@@ -106,7 +107,7 @@ module _ (src : Source) (at : ℕ) where
       let mr = check-step h end (leb (src.value 12 at₂) last_minute) Range at₃ _ m.1 in
       let n = field_step h end (src.has form.count_width at₃) Short (src.value form.count_width at₃) at₄ _ mr.1 in
       let nr =
-      check-step h end (both (leb 1 (src.value form.count_width at₃)) (leb (src.value form.count_width at₃) form.most_bands)) Range at₄ _
+      check-step h end (◌&&◌ (leb 1 (src.value form.count_width at₃)) (leb (src.value form.count_width at₃) form.most_bands)) Range at₄ _
       n.1 in
       let is : h ≡ record { from = src.value 6 at; to = src.value 6 at₁; time = minute (src.value 12 at₂); count = src.value form.count_width at₃ } =
       cc nr.1 in
@@ -153,7 +154,7 @@ module _ (src : Source) (at : ℕ) where
       let v = field_step t end (src.has 8 at) Short (src.value 8 at) at₁ _ e in
       let vr = check-step t end (eqb (src.value 8 at) 1) Edition at₁ _ v.1 in
       let p = field_step t end (src.has 7 at₁) Short (src.value 7 at₁) at₂ _ vr.1 in
-      let pr = check-step t end (both (leb 1 (src.value 7 at₁)) (leb (src.value 7 at₁) 64)) Range at₂ _ p.1 in
+      let pr = check-step t end (◌&&◌ (leb 1 (src.value 7 at₁)) (leb (src.value 7 at₁) 64)) Range at₂ _ p.1 in
       let n = field_step t end (src.has 10 at₂) Short (src.value 10 at₂) at₃ _ pr.1 in
       let nr = check-step t end (leb (src.value 10 at₂) 512) Range at₃ _ n.1 in
       let is : t ≡ record { places = src.value 7 at₁; legs = src.value 10 at₂ } = cc nr.1 in

@@ -11,17 +11,12 @@ use Rattle.answer.specs.declared.Refusal.TheVariants.{Tail}
 use Rattle.leg.specs.declared.Band.{Band}
 use Rattle.leg.specs.declared.Leg.{Leg}
 use Rattle.source.specs.Source.{Source}
-use Rattle.network.specs.declared.BandFound.{BandFound}
 use Rattle.network.specs.declared.Head.{Head}
-use Rattle.network.specs.declared.HeadFound.{HeadFound}
-use Rattle.network.specs.declared.LegFound.{LegFound}
-use Rattle.network.specs.declared.LegPassed.{LegPassed}
 use Rattle.network.specs.declared.Top.{Top}
-use Rattle.network.specs.declared.TopFound.{TopFound}
-use Rattle.network.specs.declared.Verdict.{Verdict}
 use Rattle.network.specs.Reading.{Found, refused, found}
-use Rattle.network.specs.Network.{Form, edition1, band, bands, bare, with_band, head, leg, legs, top, body, network}
-use Rattle.network.specs.Answers.{band_found, head_found, top_found, leg_found, leg_passed, bands_of}
+use Rattle.network.specs.Network.{Form, band, bands, bare, with_band, head, leg, legs, top, body, network}
+use Rattle.std.specs.Prelude.{Ok, Err}
+use Rattle.network.specs.Answers.{given, bands_of}
 
 -- a leg with the first k of its bands
 abbrev pub part_leg : Head → List Band → ℕ → Leg
@@ -36,31 +31,20 @@ module _ (src : Source) (n m least at : ℕ) (l : Leg) (e : n ≡ suc m) where
   unfolding bands
   bands-refused why q = rw e (rw q)
 
--- so many bands of a leg are judged, whatever its head is, and the rest is read from `place` on
-abbrev pub BandsPassed : Source → ℕ → ℕ → ℕ → ℕ → ℕ → Type 0
-BandsPassed src n at k least place =
-    (h : Head) → (bs : List Band) × (bands n 0 (bare edition1 h) src at ≡ bands (n - k) least (part_leg h bs k) src place)
-
 pub bands-done : (src : Source) (n least at : ℕ) (l : Leg) → n ≡ 0 → bands n least l src at ≡ found l at
 unfolding bands
 bands-done src n least at l e = rw e
 
 -- what the functions' answers tell of the readings
-pub band-of-sound : (x : Found Band) (b : Band) (at : ℕ) → band_found x ≡ BandFound.Sound b at → x ≡ found b at
-band-of-sound (refused why) b at e = cc
-band-of-sound (found c n) b at e = cc
+pub given_ok : {A : Type 0} (x : Found A) (a : A) (at : ℕ) → given x ≡ Ok (a, at) → x ≡ found a at
+given_ok (refused why) a at e = cc
+given_ok {A} (found b n) a at e =
+    let same : ◌≡◌ {A = A × ℕ} (b, n) (a, at) = cc in
+    cc (ap (λ (p : A × ℕ). p.0) same, ap (λ (p : A × ℕ). p.1) same)
 
-pub band-of-refused : (x : Found Band) (why : Refusal) → band_found x ≡ BandFound.Refused why → x ≡ refused why
-band-of-refused (refused w) why e = cc
-band-of-refused (found c n) why e = cc
-
-pub head-of-sound : (x : Found Head) (h : Head) (at : ℕ) → head_found x ≡ HeadFound.Sound h at → x ≡ found h at
-head-of-sound (refused why) h at e = cc
-head-of-sound (found c n) h at e = cc
-
-pub head-of-refused : (x : Found Head) (why : Refusal) → head_found x ≡ HeadFound.Refused why → x ≡ refused why
-head-of-refused (refused w) why e = cc
-head-of-refused (found c n) why e = cc
+pub given_err : {A : Type 0} (x : Found A) (why : Refusal) → given x ≡ Err why → x ≡ refused why
+given_err (refused w) why e = cc
+given_err (found b n) why e = cc
 
 module _ (form : Form) (places : ℕ) (src : Source) (at : ℕ) where
   pub leg-refused : (why : Refusal) → head form places src at ≡ refused why → leg form places src at ≡ refused why
@@ -100,36 +84,12 @@ pub bands-of-more : (before : List Leg) (l : Leg) → bands_of (before ++ (l ∷
 bands-of-more [] l = add_comm l.count 0
 bands-of-more (b ∷ bs) l = ap (λ (n : ℕ). b.count + n) (bands-of-more bs l) ∙ sym (add_assoc b.count (bands_of bs) l.count)
 
-pub leg-of-sound : (x : Found Leg) (r : LegFound) → r ≡ leg_found x → r.verdict ≡ Verdict.Sound → x ≡ found r.leg r.after
-leg-of-sound (refused why) r e v = cc (ap (λ (f : LegFound). f.verdict) e)
-leg-of-sound (found l n) r e v = cc (ap (λ (f : LegFound). f.leg) e, ap (λ (f : LegFound). f.after) e)
-
-pub leg-of-refused : (x : Found Leg) (r : LegFound) (why : Refusal) → r ≡ leg_found x → r.verdict ≡ Verdict.Refused why → x ≡ refused why
-leg-of-refused (refused w) r why e v = cc (ap (λ (f : LegFound). f.verdict) e)
-leg-of-refused (found l n) r why e v = cc (ap (λ (f : LegFound). f.verdict) e)
-
-pub top-of-sound : (x : Found Top) (t : Top) (at : ℕ) → top_found x ≡ TopFound.Sound t at → x ≡ found t at
-top-of-sound (refused why) t at e = cc
-top-of-sound (found c n) t at e = cc
-
-pub top-of-refused : (x : Found Top) (why : Refusal) → top_found x ≡ TopFound.Refused why → x ≡ refused why
-top-of-refused (refused w) why e = cc
-top-of-refused (found c n) why e = cc
-
 module _ (form : Form) (src : Source) (at : ℕ) where
   pub network-refused : (why : Refusal) → top src at ≡ refused why → network form src at ≡ refused why
   network-refused why e = rw e
 
   pub network-topped : (t : Top) (after : ℕ) → top src at ≡ found t after → network form src at ≡ body form t src after
   network-topped t after e = rw e
-
-pub passed-of-sound : (x : Found Leg) (n at : ℕ) → leg_passed x ≡ LegPassed.Sound n at → (l : Leg) × (x ≡ found l at) × (l.count ≡ n)
-passed-of-sound (refused why) n at e = let z : ◌≡◌ {A = ℕ} 0 1 = cc in absurd (omega arith)
-passed-of-sound (found l m) n at e = (l, cc, cc)
-
-pub passed-of-refused : (x : Found Leg) (why : Refusal) → leg_passed x ≡ LegPassed.Refused why → x ≡ refused why
-passed-of-refused (refused w) why e = cc
-passed-of-refused (found l m) why e = cc
 
 -- so many legs are read: they have so many bands, and the rest is read from `place` on
 pub record Passed (form : Form) (places n k : ℕ) (src : Source) (at place total : ℕ) : Type 0 where

@@ -1,4 +1,5 @@
 -- What a reading found, and the fields that it took: it finds the same on every source that carries them.
+use mathlib.Core.Bool.{◌&&◌}
 use Prim.Native.Nat.{ℕ, zero, suc, ◌+◌, ◌≤◌, ◌<◌}
 use mathlib.Core.Path.{◌≡◌, refl, sym, ◌∙◌, ap, subst}
 use mathlib.Core.Bool.{true}
@@ -12,7 +13,7 @@ use Rattle.bits.specs.Packed.{Entry}
 use Rattle.leg.specs.declared.Band.{Band}
 use Rattle.leg.specs.declared.Leg.{Leg}
 use Rattle.leg.specs.Ranges.{last_minute, most_cents, no_band}
-use Rattle.source.specs.Source.{Source, both}
+use Rattle.source.specs.Source.{Source}
 use Rattle.network.specs.declared.Head.{Head}
 use Rattle.network.specs.declared.Top.{Top}
 use Rattle.network.specs.Reading.{found, Reading, ◌>>=◌}
@@ -173,7 +174,7 @@ module _ (src : Source) where
 
   top-trace : (at : ℕ) (t : Top) (end : ℕ) → TopRead src at t end → Trace top src at t end (top_fields t.places t.legs)
   top-trace at t end r =
-      let p : both (leb 1 t.places) (leb t.places 64) ≡ true = simp (le-leb 1 t.places r.places_within.0, le-leb t.places 64 r.places_within.1) in
+      let p : ◌&&◌ (leb 1 t.places) (leb t.places 64) ≡ true = simp (le-leb 1 t.places r.places_within.0, le-leb t.places 64 r.places_within.1) in
       let n = le-leb t.legs 512 r.legs_within in
       record {
         carried =

@@ -1,10 +1,10 @@
 -- Document 01, "Files" and "Networks, plans, costs": the network that a file or a list of numbers stands for, or why it stands for none.
-use Rattle.std.specs.Prelude.{ℕ, zero, suc, ◌+◌, Bool, List, [], ◌∷◌, ◌++◌, leb, ltb, eqb, set}
+use Rattle.std.specs.Prelude.{ℕ, zero, suc, ◌+◌, Bool, List, [], ◌∷◌, ◌++◌, ◌&&◌, leb, ltb, eqb, set}
 use Rattle.answer.specs.declared.Refusal.TheVariants.{Edition, Range, Order}
 use Rattle.leg.specs.declared.Band.{Band}
 use Rattle.leg.specs.declared.Leg.{Leg}
 use Rattle.leg.specs.Ranges.{last_minute, most_cents, minute, band_of, no_bands}
-use Rattle.source.specs.Source.{both, file_of, list_of}
+use Rattle.source.specs.Source.{file_of, list_of}
 use Rattle.network.specs.declared.Head.{Head}
 use Rattle.network.specs.declared.Top.{Top}
 use Rattle.network.specs.Reading.{Found, Reading, ◌>>=◌, ◌>>◌, give, pick, field, check, end}
@@ -64,7 +64,7 @@ head form places = do
   time ← field 12
   check (leb time last_minute) Range
   count ← field form.count_width
-  check (both (leb 1 count) (leb count form.most_bands)) Range
+  check (leb 1 count && leb count form.most_bands) Range
   give (record { from = from; to = to; time = minute time; count = count })
 
 -- one leg
@@ -86,7 +86,7 @@ top = do
   edition ← field 8
   check (eqb edition 1) Edition
   places ← field 7
-  check (both (leb 1 places) (leb places 64)) Range
+  check (leb 1 places && leb places 64) Range
   count ← field 10
   check (leb count 512) Range
   give (record { places = places; legs = count })

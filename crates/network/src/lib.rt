@@ -3,21 +3,15 @@
 
 ghost use Rattle.std.specs.Prelude.{◌≡◌, ◌≤◌};
 ghost use Rattle.leg.specs.Ranges.{last_minute};
-ghost use Rattle.source.specs.Source.{source_of};
-ghost use Rattle.network.specs.Reading.{refused};
 ghost use Rattle.network.specs.Network.{edition1, follows, band, bands, bare, head, leg, top, body, network};
-ghost use Rattle.network.specs.Answers.{band_found, head_found, top_found, leg_found, leg_passed, network_found};
+ghost use Rattle.network.specs.Answers.{given, network_found};
 
 use answer::Refusal;
-use leg::{Band, Cents, CentsFound, CountFound, Leg, Minute, MinuteFound};
+use leg::{Band, Cents, Leg, Minute};
 use source::Origin;
 
-// A band and the place after it, or why there is none.
-#[derive(Clone, Copy)]
-pub enum BandFound {
-    Refused(Refusal),
-    Sound(Band, usize),
-}
+// What a judging comes to: what was found and the place after it, or why it is refused.
+pub type Found<T> = Result<(T, usize), Refusal>;
 
 // The head of a leg: everything but its bands, and how many those are.
 #[derive(Clone, Copy)]
@@ -28,44 +22,11 @@ pub struct Head {
     pub count: usize,
 }
 
-#[derive(Clone, Copy)]
-pub enum HeadFound {
-    Refused(Refusal),
-    Sound(Head, usize),
-}
-
-#[derive(Clone, Copy)]
-pub enum Verdict {
-    Sound,
-    Refused(Refusal),
-}
-
-// A leg and the place after it where the verdict is `Sound`, zeros where it is not.
-#[derive(Clone, Copy)]
-pub struct LegFound {
-    pub verdict: Verdict,
-    pub leg: Leg,
-    pub after: usize,
-}
-
-// A leg that was judged and not kept: how many bands it has and the place after it, or why it is refused.
-#[derive(Clone, Copy)]
-pub enum LegPassed {
-    Refused(Refusal),
-    Sound(usize, usize),
-}
-
 // The head of a network: how many places and how many legs.
 #[derive(Clone, Copy)]
 pub struct Top {
     pub places: u32,
     pub legs: usize,
-}
-
-#[derive(Clone, Copy)]
-pub enum TopFound {
-    Refused(Refusal),
-    Sound(Top, usize),
 }
 
 // How large a network is: its places, its legs, and the bands of all legs together.
@@ -74,12 +35,6 @@ pub struct Size {
     pub places: u32,
     pub legs: usize,
     pub bands: usize,
-}
-
-#[derive(Clone, Copy)]
-pub enum NetworkFound {
-    Refused(Refusal),
-    Sound(Size),
 }
 
 impl Top {
@@ -102,238 +57,150 @@ fn rises(least: u32, start: u32) -> bool
 }
 
 // One band: start, then toll.
-pub fn band_from(origin: Origin, net: &[u8], list: &[u32], at: usize, least: u32) -> BandFound
+pub fn band_from<S: Origin>(source: &S, at: usize, least: u32) -> Found<Band>
     requires { at ≤ 1000000 }
-    ensures { result ≡ band_found (band least (source_of origin net.now list.now) at) }
+    ensures { result ≡ given (band least (S.source source.now) at) }
 {
-    let fields = source::band(origin, net, list, at);
-    let have = fields.have;
-    let start = fields.a;
-    let toll = fields.b;
-    if have == 0 {
-        return BandFound::Refused(Refusal::Short);
+    let fields = source.band(at);
+    if fields.have == 0 {
+        return Err(Refusal::Short);
     }
-    let MinuteFound::Within(from) = Minute::new(start) else {
-        return BandFound::Refused(Refusal::Range);
-    };
-    if !rises(least, start) {
-        return BandFound::Refused(Refusal::Order);
+    let start = Minute::new(fields.a).ok_or(Refusal::Range)?;
+    if !rises(least, fields.a) {
+        return Err(Refusal::Order);
     }
-    if have == 1 {
-        return BandFound::Refused(Refusal::Short);
+    if fields.have == 1 {
+        return Err(Refusal::Short);
     }
-    let CentsFound::Within(price) = Cents::new(toll) else {
-        return BandFound::Refused(Refusal::Range);
-    };
-    BandFound::Sound(Band::new(from, price), fields.after)
+    let toll = Cents::new(fields.b).ok_or(Refusal::Range)?;
+    Ok((Band::new(start, toll), fields.after))
 }
 
 // The head of a leg: from, to, driving time, number of bands.
-pub fn head_from(origin: Origin, net: &[u8], list: &[u32], at: usize, places: u32) -> HeadFound
+pub fn head_from<S: Origin>(source: &S, at: usize, places: u32) -> Found<Head>
     requires { at ≤ 1000000 }
-    ensures { result ≡ head_found (head edition1 places (source_of origin net.now list.now) at) }
+    ensures { result ≡ given (head edition1 places (S.source source.now) at) }
 {
-    let fields = source::head(origin, net, list, at);
-    let have = fields.have;
-    if have == 0 {
-        return HeadFound::Refused(Refusal::Short);
+    let fields = source.head(at);
+    if fields.have == 0 {
+        return Err(Refusal::Short);
     }
     if places <= fields.a {
-        return HeadFound::Refused(Refusal::Range);
+        return Err(Refusal::Range);
     }
-    if have == 1 {
-        return HeadFound::Refused(Refusal::Short);
+    if fields.have == 1 {
+        return Err(Refusal::Short);
     }
     if places <= fields.b {
-        return HeadFound::Refused(Refusal::Range);
+        return Err(Refusal::Range);
     }
-    if have == 2 {
-        return HeadFound::Refused(Refusal::Short);
+    if fields.have == 2 {
+        return Err(Refusal::Short);
     }
-    let MinuteFound::Within(time) = Minute::new(fields.c) else {
-        return HeadFound::Refused(Refusal::Range);
-    };
-    if have == 3 {
-        return HeadFound::Refused(Refusal::Short);
+    let time = Minute::new(fields.c).ok_or(Refusal::Range)?;
+    if fields.have == 3 {
+        return Err(Refusal::Short);
     }
-    let CountFound::Within(count) = Leg::band_count(fields.d) else {
-        return HeadFound::Refused(Refusal::Range);
-    };
+    let count = Leg::band_count(fields.d).ok_or(Refusal::Range)?;
     let head = Head {
         from: fields.a,
         to: fields.b,
         time,
         count,
     };
-    HeadFound::Sound(head, fields.after)
-}
-
-// What a refused leg comes back as.
-fn no_leg(why: Refusal) -> LegFound
-    ensures { result ≡ leg_found (refused why) }
-{
-    LegFound {
-        verdict: Verdict::Refused(why),
-        leg: Leg::none(),
-        after: 0,
-    }
+    Ok((head, fields.after))
 }
 
 // The bands of a leg, after its head.
-pub fn bands_from(origin: Origin, net: &[u8], list: &[u32], at: usize, head: Head) -> LegFound
+pub fn bands_from<S: Origin>(source: &S, at: usize, head: Head) -> Found<Leg>
     requires { (at ≤ 900000) × (1 ≤ head.count) × (head.count ≤ 8) × (head.time.0 ≤ last_minute) }
-    ensures { result ≡ leg_found (bands head.count 0 (bare edition1 head) (source_of origin net.now list.now) at) }
+    ensures { result ≡ given (bands head.count 0 (bare edition1 head) (S.source source.now) at) }
 {
     let count = head.count;
     let mut bands = Band::places();
     let mut place = at;
     let mut least = 0;
-    let mut k = 0;
-    while k < count {
-        let found = band_from(origin, net, list, place, least);
-        match found {
-            BandFound::Refused(why) => {
-                return no_leg(why);
-            }
-            BandFound::Sound(band, after) => {
-                bands[k] = band;
-                place = after;
-                least = band.start.0 + 1;
-            }
-        }
-        k += 1;
+    for k in 0..count {
+        let (band, after) = band_from(source, place, least)?;
+        bands[k] = band;
+        place = after;
+        least = band.start.0 + 1;
     }
-    LegFound {
-        verdict: Verdict::Sound,
-        leg: Leg::new(head.from, head.to, head.time, bands, count),
-        after: place,
-    }
-}
-
-// The bands of a leg, judged and not kept.
-fn pass_bands(origin: Origin, net: &[u8], list: &[u32], at: usize, head: Head) -> LegPassed
-    requires { (at ≤ 900000) × (head.count ≤ 8) }
-    ensures { result ≡ leg_passed (bands head.count 0 (bare edition1 head) (source_of origin net.now list.now) at) }
-{
-    let count = head.count;
-    let mut place = at;
-    let mut least = 0;
-    let mut k = 0;
-    while k < count {
-        let found = band_from(origin, net, list, place, least);
-        match found {
-            BandFound::Refused(why) => {
-                return LegPassed::Refused(why);
-            }
-            BandFound::Sound(band, after) => {
-                place = after;
-                least = band.start.0 + 1;
-            }
-        }
-        k += 1;
-    }
-    LegPassed::Sound(count, place)
-}
-
-// One leg, judged and not kept: what a first pass over a file needs.
-fn pass_leg(origin: Origin, net: &[u8], list: &[u32], at: usize, places: u32) -> LegPassed
-    requires { at ≤ 800000 }
-    ensures { result ≡ leg_passed (leg edition1 places (source_of origin net.now list.now) at) }
-{
-    let found = head_from(origin, net, list, at, places);
-    match found {
-        HeadFound::Refused(why) => LegPassed::Refused(why),
-        HeadFound::Sound(head, after) => pass_bands(origin, net, list, after, head),
-    }
+    let leg = Leg::new(head.from, head.to, head.time, bands, count);
+    Ok((leg, place))
 }
 
 // One leg: its head, then its bands.
-pub fn leg_from(origin: Origin, net: &[u8], list: &[u32], at: usize, places: u32) -> LegFound
+pub fn leg_from<S: Origin>(source: &S, at: usize, places: u32) -> Found<Leg>
     requires { at ≤ 800000 }
-    ensures { result ≡ leg_found (leg edition1 places (source_of origin net.now list.now) at) }
+    ensures { result ≡ given (leg edition1 places (S.source source.now) at) }
 {
-    let found = head_from(origin, net, list, at, places);
-    match found {
-        HeadFound::Refused(why) => no_leg(why),
-        HeadFound::Sound(head, after) => bands_from(origin, net, list, after, head),
-    }
+    let (head, after) = head_from(source, at, places)?;
+    bands_from(source, after, head)
 }
 
 // The head of a network: edition, places, number of legs.
-pub fn top_from(origin: Origin, net: &[u8], list: &[u32]) -> TopFound
-    ensures { result ≡ top_found (top (source_of origin net.now list.now) 0) }
+pub fn top_from<S: Origin>(source: &S) -> Found<Top>
+    ensures { result ≡ given (top (S.source source.now) 0) }
 {
-    let fields = source::top(origin, net, list);
-    let have = fields.have;
-    if have == 0 {
-        return TopFound::Refused(Refusal::Short);
+    let fields = source.top();
+    if fields.have == 0 {
+        return Err(Refusal::Short);
     }
     if fields.a != Top::EDITION {
-        return TopFound::Refused(Refusal::Edition);
+        return Err(Refusal::Edition);
     }
-    if have == 1 {
-        return TopFound::Refused(Refusal::Short);
+    if fields.have == 1 {
+        return Err(Refusal::Short);
     }
     if fields.b < 1 {
-        return TopFound::Refused(Refusal::Range);
+        return Err(Refusal::Range);
     }
     if Top::MOST_PLACES < fields.b {
-        return TopFound::Refused(Refusal::Range);
+        return Err(Refusal::Range);
     }
-    if have == 2 {
-        return TopFound::Refused(Refusal::Short);
+    if fields.have == 2 {
+        return Err(Refusal::Short);
     }
     if Top::MOST_LEGS < fields.c {
-        return TopFound::Refused(Refusal::Range);
+        return Err(Refusal::Range);
     }
     let top = Top {
         places: fields.b,
         legs: fields.c as usize,
     };
-    TopFound::Sound(top, fields.after)
+    Ok((top, fields.after))
 }
 
 // The legs of a network, and nothing after them.
-pub fn body_from(origin: Origin, net: &[u8], list: &[u32], at: usize, top: Top) -> NetworkFound
+pub fn body_from<S: Origin>(source: &S, at: usize, top: Top) -> Result<Size, Refusal>
     requires { (at ≤ 1000) × (top.legs ≤ 512) }
-    ensures { result ≡ network_found (body edition1 top (source_of origin net.now list.now) at) }
+    ensures { result ≡ network_found (body edition1 top (S.source source.now) at) }
 {
-    let legs = top.legs;
     let places = top.places;
+    let legs = top.legs;
     let mut place = at;
     let mut bands = 0;
-    let mut k = 0;
-    while k < legs {
-        let found = pass_leg(origin, net, list, place, places);
-        match found {
-            LegPassed::Refused(why) => {
-                return NetworkFound::Refused(why);
-            }
-            LegPassed::Sound(count, after) => {
-                bands += count;
-                place = after;
-            }
-        }
-        k += 1;
+    for k in 0..legs {
+        let (leg, after) = leg_from(source, place, places)?;
+        bands += leg.count;
+        place = after;
     }
-    if source::ends(origin, net, list, place) {
-        NetworkFound::Sound(Size {
+    if source.ends(place) {
+        Ok(Size {
             places,
             legs,
             bands,
         })
     } else {
-        NetworkFound::Refused(Refusal::Tail)
+        Err(Refusal::Tail)
     }
 }
 
 // A whole network: what a file or a list of numbers stands for, and how large it is.
-pub fn network_from(origin: Origin, net: &[u8], list: &[u32]) -> NetworkFound
-    ensures { result ≡ network_found (network edition1 (source_of origin net.now list.now) 0) }
+pub fn network_from<S: Origin>(source: &S) -> Result<Size, Refusal>
+    ensures { result ≡ network_found (network edition1 (S.source source.now) 0) }
 {
-    let found = top_from(origin, net, list);
-    match found {
-        TopFound::Refused(why) => NetworkFound::Refused(why),
-        TopFound::Sound(top, after) => body_from(origin, net, list, after, top),
-    }
+    let (top, after) = top_from(source)?;
+    body_from(source, after, top)
 }

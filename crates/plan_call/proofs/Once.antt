@@ -5,7 +5,8 @@ use mathlib.Core.Bool.{Bool, true, false}
 use mathlib.Core.List.{List, ◌++◌}
 use lib.Dec.{leb}
 use lib.ListN.{length, drop}
-use Rattle.answer.specs.declared.PlanAnswer.{PlanAnswer}
+use Rattle.answer.specs.Plans.{PlanAnswer}
+use Rattle.std.specs.Prelude.{Err}
 use Rattle.answer.specs.declared.Refusal.TheVariants.{Room}
 use Rattle.network.specs.Reading.{pick}
 use Rattle.plan.specs.Network.{Network, Query}
@@ -31,8 +32,8 @@ answered-once N q out x y a b h k =
     let same = right-once N q h.right k.right in
     let long : PlanFile → ℕ = λ f. plan_bytes (length f.rides) in (
       h.answer_is
-          ∙ ap (λ (f : PlanFile). pick (leb (long f) (length out)) (h.given (long f)) (PlanAnswer.Refused Room)) same.0
-          ∙ ap (λ (g : ℕ → PlanAnswer). pick (leb (long k.file) (length out)) (g (long k.file)) (PlanAnswer.Refused Room)) same.1
+          ∙ ap (λ (f : PlanFile). pick (leb (long f) (length out)) (h.given (long f)) (Err Room)) same.0
+          ∙ ap (λ (g : ℕ → PlanAnswer). pick (leb (long k.file) (length out)) (g (long k.file)) (Err Room)) same.1
           ∙ sym k.answer_is,
       output-once (leb (long k.file) (length out)) k.file out x y
           (subst (λ (f : PlanFile). Output (leb (long f) (length out)) f out x) same.0 h.output_is) k.output_is,

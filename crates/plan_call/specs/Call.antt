@@ -1,6 +1,7 @@
 -- THE PLAN CALL'S PROMISE: number, length, output and table on every input, in the definitions' own words.
 use Rattle.std.specs.Prelude.{ℕ, ◌≡◌, Bool, true, false, List, ◌++◌, leb, length, drop}
-use Rattle.answer.specs.declared.PlanAnswer.{PlanAnswer}
+use Rattle.answer.specs.Plans.{PlanAnswer, plan_filed, none_filed}
+use Rattle.std.specs.Prelude.{Err}
 use Rattle.answer.specs.declared.Refusal.TheVariants.{Room}
 use Rattle.network.specs.Reading.{pick}
 use Rattle.network.specs.Network.{of_file}
@@ -13,8 +14,8 @@ use Rattle.tabled.specs.Comes.{Comes}
 
 -- what the file says and the answer that goes with it, if there is room: the named plan and its cost, or "none" where no plan is feasible
 pub data Right (N : Network) (q : Query) : PlanFile → (ℕ → PlanAnswer) → Type 0 where
-  plan : (rides : List Ride) → Named N q rides → Right N q (file_of_plan N q rides) PlanAnswer.Done
-  none : ((rides : List Ride) → Feasible N q rides → ⊥) → Right N q (none_file q) PlanAnswer.NoPlan
+  plan : (rides : List Ride) → Named N q rides → Right N q (file_of_plan N q rides) plan_filed
+  none : ((rides : List Ride) → Feasible N q rides → ⊥) → Right N q (none_file q) none_filed
 
 -- the output: the file at its front, and the rest keeps its bytes; without room it keeps them all
 abbrev pub Output : Bool → PlanFile → List ℕ → List ℕ → Type 0
@@ -26,7 +27,7 @@ pub record Answered (N : Network) (q : Query) (out after : List ℕ) (answer : P
   pub file : PlanFile
   pub given : ℕ → PlanAnswer
   pub right : Right N q file given
-  pub answer_is : answer ≡ pick (leb (plan_bytes (length file.rides)) (length out)) (given (plan_bytes (length file.rides))) (PlanAnswer.Refused Room)
+  pub answer_is : answer ≡ pick (leb (plan_bytes (length file.rides)) (length out)) (given (plan_bytes (length file.rides))) (Err Room)
   pub output_is : Output (leb (plan_bytes (length file.rides)) (length out)) file out after
 
 -- the plan call's promise, for every file, query, table and output

@@ -7,43 +7,36 @@ ghost use Rattle.tabled.specs.Tabled.{Tabled};
 ghost use Rattle.chart.specs.Net.{theory_in};
 ghost use Rattle.plan_call.specs.Call.{Answered, Plans};
 
-use answer::{PlanAnswer, Refusal};
+use answer::{Filed, PlanAnswer, Refusal};
+use chart::Tariff;
 use leg::Minute;
 use network::Size;
 use plan_file::Query;
-use tabled::Tabling;
+use walk::{Table, Walk};
 
 // 9, 10 and 0, from a filled table.
 fn answer(net: &[u8], size: Size, query: Query, cells: &[u32], out: &mut [u8]) -> PlanAnswer
     requires { Tabled net.now size query cells.now }
     ensures { Answered (theory_in net.now) (query_of query) out.old out.new result }
 {
-    let end = query.end;
-    let latest = query.latest;
-    if walk::cell(cells, query, end, latest) == rows::NO_PLAN {
+    let table = Table { cells, query };
+    if table.cell(query.end, query.latest) == rows::NO_PLAN {
         if out.len() < 12 {
-            return PlanAnswer::Refused(Refusal::Room);
+            return Err(Refusal::Room);
         }
         walk::write_none(&mut out[..12], query);
-        return PlanAnswer::NoPlan(12);
+        return Ok(Filed::NoPlan(12));
     }
-    let chart = chart::chart(net, size);
-    let arrival = walk::first(cells, query, end, latest, 64);
-    let legs = walk::cell(cells, query, end, arrival) % 64;
+    let arrival = table.first(query.end, query.latest, 64);
+    let legs = table.cell(query.end, arrival) % 64;
     let bytes = (96 + 21 * legs) / 8;
     if out.len() < bytes as usize {
-        return PlanAnswer::Refused(Refusal::Room);
+        return Err(Refusal::Room);
     }
-    walk::write_plan(
-        net,
-        &chart,
-        cells,
-        &mut out[..bytes as usize],
-        size,
-        query,
-        arrival,
-    );
-    PlanAnswer::Done(bytes)
+    let tariff = Tariff::of(net, size);
+    let walk = Walk { tariff, table };
+    walk.write_plan(&mut out[..bytes as usize], arrival);
+    Ok(Filed::Plan(bytes))
 }
 
 // THE PLAN CALL.
@@ -65,9 +58,6 @@ pub fn plan(
         earliest: Minute(earliest),
         latest: Minute(latest),
     };
-    let tabling = tabled::fill_for(net, query, table);
-    match tabling {
-        Tabling::Refused(why) => PlanAnswer::Refused(why),
-        Tabling::Filled(size) => answer(net, size, query, table, out),
-    }
+    let size = tabled::fill_for(net, query, table)?;
+    answer(net, size, query, table, out)
 }

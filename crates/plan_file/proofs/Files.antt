@@ -2,16 +2,26 @@
 use Prim.Native.Nat.{ℕ, ◌+◌, ◌-◌, ◌*◌, ◌<◌}
 use native.Mathlib.Omega.{arith}
 use mathlib.Core.Path.{◌≡◌, refl, sym, ap, ◌∙◌, subst}
+use mathlib.Core.Bool.{cond}
+use mathlib.Core.Option.{none, some}
 use mathlib.Core.List.{List, [], ◌∷◌}
+use borrow.Author.Tests.{eq-eqb, ne_eqb}
 use lib.ListN.{length, get_or}
 use Rattle.bits.specs.Field.{field}
 use Rattle.bits.specs.Packed.{item, bits_of, Holds}
 use Rattle.bits.proofs.Packing.{bits-append, holds-none, holds-cons, holds-head, holds-tail, holds-append, holds-first, holds-last, packed-of-read, packed-unique}
-use Rattle.plan.specs.Network.{Query}
+use Rattle.plan.specs.Network.{Cents, Query}
 use Rattle.plan.specs.Plan.{Ride}
 use Rattle.plan_file.specs.Puts.{Puts}
 use Rattle.plan_file.proofs.Puts.{puts_then, puts-front, puts-packed}
-use Rattle.plan_file.specs.PlanFile.{PlanFile, ride_of, ride_fields, rides_fields, head_fields, plan_fields, plan_bytes, FileOf}
+use Rattle.plan_file.specs.PlanFile.{PlanFile, ride_of, ride_fields, rides_fields, head_fields, plan_fields, plan_bytes, FileOf, stated_cost}
+
+-- the stated cost, by the verdict
+pub stated-none : (verdict : ℕ) (x : Cents) → verdict ≡ 0 → stated_cost verdict x ≡ none
+stated-none verdict x e = ap (λ b. cond b none (some x)) (eq-eqb verdict 0 e)
+
+pub stated-some : (verdict : ℕ) (x : Cents) → (verdict ≡ 0 → ⊥) → stated_cost verdict x ≡ some x
+stated-some verdict x n = ap (λ b. cond b none (some x)) (ne_eqb verdict 0 n)
 
 -- 21 bits a ride
 pub rides-bits : (rs : List Ride) → bits_of (rides_fields rs) ≡ 21 * length rs

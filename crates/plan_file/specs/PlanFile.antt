@@ -1,9 +1,11 @@
 -- Document 01, "Files": what a plan file says, and its fields in file order with their widths.
-use Rattle.std.specs.Prelude.{ℕ, ◌+◌, ◌*◌, ◌≤◌, ◌<◌, ◌≡◌, List, [], ◌∷◌, ◌++◌, length}
+use Rattle.std.specs.Prelude.{ℕ, ◌+◌, ◌*◌, ◌≤◌, ◌<◌, ◌≡◌, cond, List, [], ◌∷◌, ◌++◌, eqb, length}
+use Rattle.std.proofs.Math.Option.{Option, none, some}
 use Rattle.bits.specs.Packed.{Entry, item, bytes_for, Packed}
 use Rattle.plan.specs.Network.{Minute, Cents, Network, Query}
 use Rattle.plan.specs.Plan.{Ride, cost}
 use Rattle.plan_file.specs.declared.Query.{Query as Asked}
+use Rattle.plan_file.specs.declared.Verdict.{Verdict}
 
 -- What a plan file says. The rides stand here as in the theory, THE LAST RIDE FIRST; in the file the first ride stands first.
 pub record PlanFile : Type 0 where
@@ -11,6 +13,11 @@ pub record PlanFile : Type 0 where
   pub query : Query
   pub price : Cents
   pub rides : List Ride
+
+-- the code's verdict as the number in the file
+abbrev pub verdict_of : Verdict → ℕ
+verdict_of Verdict.NoPlan = 0
+verdict_of Verdict.Plan = 1
 
 -- the code's query as the theory's
 abbrev pub query_of : Asked → Query
@@ -63,6 +70,14 @@ file_of_plan N q plan = record { verdict = 1; query = q; price = cost N plan; ri
 -- verdict "none": cost 0 and no legs
 abbrev pub none_file : Query → PlanFile
 none_file q = record { verdict = 0; query = q; price = 0; rides = [] }
+
+-- the cost that a plan file states: none with verdict "none"
+abbrev pub stated_cost : ℕ → Cents → Option Cents
+stated_cost verdict price = cond (eqb verdict 0) none (some price)
+
+-- the cost that this file states
+abbrev pub stated : PlanFile → Option Cents
+stated f = stated_cost f.verdict f.price
 
 -- how many legs a plan file may hold
 abbrev pub most_legs : ℕ

@@ -2,7 +2,7 @@
 use Prim.Native.Nat.{ℕ, zero, suc, ◌+◌, ◌-◌, ◌*◌, ◌≤◌, ◌<◌}
 use native.Mathlib.Omega.{arith}
 use mathlib.Core.Path.{◌≡◌, refl, sym, ◌∙◌, ap, subst}
-use mathlib.Core.Bool.{true, false}
+use mathlib.Core.Bool.{true}
 use mathlib.Core.List.{List}
 use borrow.Author.Tests.{eq-eqb, eqb-true}
 use lib.Dec.{eqb}
@@ -14,8 +14,7 @@ use Rattle.source.specs.Source.{file_of}
 use Rattle.source.proofs.Laws.{both_true}
 use Rattle.plan_file.specs.PlanFile.{PlanFile, rides_fields}
 use Rattle.plan_file.proofs.Files.{plan-bits, plan-size, plan-head, plan-read, rides-none, rides-more}
-use Rattle.plan_reader.specs.declared.Plan.{Plan}
-use Rattle.plan_reader.specs.InPlace.{ride_at, rides_at, file_at, Says, Headed, Told}
+use Rattle.plan_reader.specs.InPlace.{ride_at, rides_at, file_at, Says, HeadAllowed}
 
 pub rides-length : (s : List ℕ) (n : ℕ) → length (rides_at s n) ≡ n
 unfolding rides_at
@@ -31,21 +30,18 @@ rides-hold s (suc n) =
 
 module _ (s : List ℕ) where
   -- the bytes are the file that they say
-  pub says_here : field s 0 8 ≡ 1 → field s 77 12 ≤ 63 → (field s 8 1 ≡ 0 → field s 45 32 ≡ 0) → (field s 8 1 ≡ 0 → field s 77 12 ≡ 0)
-      → (file_of s).ends (89 + 21 * field s 77 12) ≡ true
-      → ((i : ℕ) → get_or s i 0 < 256)
-      → Says s (file_at s)
-  says_here edition few price legs ends byte =
+  pub says_here : HeadAllowed s → (file_of s).ends (89 + 21 * field s 77 12) ≡ true → ((i : ℕ) → get_or s i 0 < 256) → Says s (file_at s)
+  says_here h ends byte =
       let n = field s 77 12 in
       let long = rides-length s n in
       let e = both_true (eqb (length s) (bytes_for (89 + 21 * n))) (eqb (field s (89 + 21 * n) (8 * length s - (89 + 21 * n))) 0) ends in
       record {
         file =
             plan-read (file_at s) s
-            (record { edition = edition; verdict = refl; start = refl; end = refl; earliest = refl; latest = refl; price = refl; legs = sym long })
+            (record { edition = h.edition; verdict = refl; start = refl; end = refl; earliest = refl; latest = refl; price = refl; legs = sym long })
             (rides-hold s n) (rw long (eqb-true (length s) (bytes_for (89 + 21 * n)) e.0))
             (rw long (eqb-true (field s (89 + 21 * n) (8 * length s - (89 + 21 * n))) 0 e.1)) byte;
-        allowed = record { few = omega (arith, long); none_price = price; none_legs = λ h. long ∙ legs h };
+        allowed = record { few = omega (arith, long, h.few); none_price = h.none_price; none_legs = λ z. long ∙ h.none_legs z };
       }
 
   module _ (f : PlanFile) (h : Says s f) where
@@ -53,21 +49,15 @@ module _ (s : List ℕ) where
     pub says-long : 12 ≤ length s
     says-long = omega (arith, plan-size f s h.file)
 
-    pub says-edition : field s 0 8 ≡ 1
-    says-edition = (plan-head f s h.file).edition
-
-    pub says-few : field s 77 12 ≤ 63
-    says-few = omega (arith, (plan-head f s h.file).legs, h.allowed.few)
-
-    pub says-price : field s 8 1 ≡ 0 → field s 45 32 ≡ 0
-    says-price e =
+    pub says-head : HeadAllowed s
+    says-head =
         let d = plan-head f s h.file in
-        d.price ∙ h.allowed.none_price (sym d.verdict ∙ e)
-
-    pub says-legs : field s 8 1 ≡ 0 → field s 77 12 ≡ 0
-    says-legs e =
-        let d = plan-head f s h.file in
-        d.legs ∙ h.allowed.none_legs (sym d.verdict ∙ e)
+        record {
+          edition = d.edition;
+          few = omega (arith, d.legs, h.allowed.few);
+          none_price = λ e. d.price ∙ h.allowed.none_price (sym d.verdict ∙ e);
+          none_legs = λ e. d.legs ∙ h.allowed.none_legs (sym d.verdict ∙ e);
+        }
 
     pub says-ends : (file_of s).ends (89 + 21 * field s 77 12) ≡ true
     says-ends =
@@ -82,10 +72,3 @@ module _ (s : List ℕ) where
 
     pub says-one : f ≡ file_at s → Says s (file_at s)
     says-one e = subst (λ (x : PlanFile). Says s x) e h
-
-  -- a plan that is not sound
-  pub told-no : (r : Plan) → r.sound ≡ false → ((f : PlanFile) → Says s f → ⊥) → Told r.sound s r
-  told-no r e h = subst (λ b. Told b s r) (sym e) h
-
-  pub told-yes : (r : Plan) → Headed s r → Says s (file_at s) → Told r.sound s r
-  told-yes r d h = subst (λ b. Told b s r) (sym d.sound) (h, d)

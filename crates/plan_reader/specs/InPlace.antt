@@ -1,8 +1,9 @@
 -- A plan file where it stands: what a reading in place goes by.
-use Rattle.std.specs.Prelude.{ℕ, zero, suc, ◌+◌, ◌*◌, ◌≡◌, Bool, true, false, List, [], ◌∷◌}
+use Rattle.std.specs.Prelude.{ℕ, zero, suc, ◌+◌, ◌*◌, ◌≤◌, ◌≡◌, List, [], ◌∷◌, Option, Some, None}
+use Rattle.leg.specs.Price.{price_of}
 use Rattle.bits.specs.Field.{field}
 use Rattle.plan.specs.Plan.{Ride}
-use Rattle.plan_file.specs.PlanFile.{PlanFile, FileOf, Allowed, most_legs, ride_of, query_of}
+use Rattle.plan_file.specs.PlanFile.{PlanFile, FileOf, Allowed, most_legs, ride_of, query_of, stated}
 use Rattle.plan_reader.specs.declared.Plan.{Plan}
 
 -- ride k of the bytes, counted from the first
@@ -28,15 +29,25 @@ pub record Says (s : List ℕ) (f : PlanFile) : Type 0 where
   pub file : FileOf f s
   pub allowed : Allowed most_legs f
 
+-- the head of a plan file that says what it may, as far as the fields before the rides tell
+pub record HeadAllowed (s : List ℕ) : Type 0 where
+  pub edition : field s 0 8 ≡ 1
+  pub few : field s 77 12 ≤ most_legs
+  pub none_price : field s 8 1 ≡ 0 → field s 45 32 ≡ 0
+  pub none_legs : field s 8 1 ≡ 0 → field s 77 12 ≡ 0
+
 -- the head, as it is handed on
 pub record Headed (s : List ℕ) (r : Plan) : Type 0 where
-  pub sound : r.sound ≡ true
-  pub verdict : r.verdict ≡ field s 8 1
+  pub stated : price_of r.stated ≡ stated (file_at s)
   pub query : query_of r.query ≡ (file_at s).query
-  pub cost : r.cost.0 ≡ field s 45 32
   pub legs : r.legs ≡ field s 77 12
 
--- a sound plan is what the bytes say; of an unsound one they say nothing
-abbrev pub Told : Bool → List ℕ → Plan → Type 0
-Told true s r = Says s (file_at s) × Headed s r
-Told false s r = (f : PlanFile) → Says s f → ⊥
+-- a head that was found is handed on; where none was, it is not allowed
+abbrev pub HeadTold : List ℕ → Option Plan → Type 0
+HeadTold s (Some r) = HeadAllowed s × Headed s r
+HeadTold s None = HeadAllowed s → ⊥
+
+-- a plan that was found is what the bytes say; where none was, they say nothing
+abbrev pub Told : List ℕ → Option Plan → Type 0
+Told s (Some r) = Says s (file_at s) × Headed s r
+Told s None = (f : PlanFile) → Says s f → ⊥

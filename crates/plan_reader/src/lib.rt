@@ -1,19 +1,18 @@
 // A plan file, judged and read in place.
 #![tactic(auto)]
 
-ghost use Rattle.std.specs.Prelude.{◌≡◌, false, ◌≤◌, length};
-ghost use Rattle.plan_reader.specs.InPlace.{Told, Headed};
+ghost use Rattle.std.specs.Prelude.{◌≡◌, ◌≤◌, length};
+ghost use Rattle.plan_file.specs.PlanFile.{query_of};
+ghost use Rattle.plan_reader.specs.InPlace.{file_at, HeadTold, Told};
 
 use leg::{Cents, Minute};
 use plan_file::Query;
 
-// What a plan file says, but for its rides; zeros where it is not sound.
+// What a plan file says, but for its rides: with "none" it states no cost.
 #[derive(Clone, Copy)]
 pub struct Plan {
-    pub sound: bool,
-    pub verdict: u32,
+    pub stated: Option<Cents>,
     pub query: Query,
-    pub cost: Cents,
     pub legs: usize,
 }
 
@@ -23,76 +22,62 @@ impl Plan {
     pub const MOST_LEGS: usize = 63;
 }
 
-// What comes back for bytes that are no plan file.
-fn no_plan() -> Plan
-    ensures { result.sound ≡ false }
-{
-    Plan {
-        sound: false,
-        verdict: 0,
-        query: Query {
-            start: 0,
-            end: 0,
-            earliest: Minute(0),
-            latest: Minute(0),
-        },
-        cost: Cents(0),
-        legs: 0,
-    }
-}
-
-// The head of a plan file that has one.
-fn head(plan: &[u8]) -> Plan
+// The query of a plan file that has one.
+fn query(plan: &[u8]) -> Query
     requires { 12 ≤ length plan.now }
-    ensures { Headed plan.now result }
+    ensures { query_of result ≡ (file_at plan.now).query }
 {
-    let verdict = reader::field(plan, 8, 1);
-    let start = reader::field(plan, 9, 6);
-    let end = reader::field(plan, 15, 6);
-    let earliest = reader::field(plan, 21, 12);
-    let latest = reader::field(plan, 33, 12);
-    let cost = reader::field(plan, 45, 32);
-    let legs = reader::field(plan, 77, 12) as usize;
-    Plan {
-        sound: true,
-        verdict,
-        query: Query {
-            start,
-            end,
-            earliest: Minute(earliest),
-            latest: Minute(latest),
-        },
-        cost: Cents(cost),
-        legs,
+    Query {
+        start: reader::field(plan, 9, 6),
+        end: reader::field(plan, 15, 6),
+        earliest: Minute(reader::field(plan, 21, 12)),
+        latest: Minute(reader::field(plan, 33, 12)),
     }
 }
 
-// A whole plan file: edition 1, at most 63 legs, "none" with cost 0 and no legs, zero fill bits and nothing after them.
-pub fn plan_from(plan: &[u8]) -> Plan
-    ensures { Told result.sound plan.now result }
+// The head of a plan file that has one: edition 1, at most 63 legs, and "none" with cost 0 and no legs.
+fn head(plan: &[u8]) -> Option<Plan>
+    requires { 12 ≤ length plan.now }
+    ensures { HeadTold plan.now result }
 {
-    if plan.len() < 12 {
-        return no_plan();
-    }
     let edition = reader::field(plan, 0, 8);
     if edition != Plan::EDITION {
-        return no_plan();
+        return None;
     }
-    let read = head(plan);
-    let legs = read.legs;
+    let legs = reader::field(plan, 77, 12) as usize;
     if Plan::MOST_LEGS < legs {
-        return no_plan();
+        return None;
     }
-    if read.verdict == 0 {
-        if read.cost.0 != 0 {
-            return no_plan();
-        }
-        if legs != 0 {
-            return no_plan();
-        }
+    let verdict = reader::field(plan, 8, 1);
+    let cost = reader::field(plan, 45, 32);
+    if verdict != 0 {
+        return Some(Plan {
+            stated: Some(Cents(cost)),
+            query: query(plan),
+            legs,
+        });
     }
-    if reader::ends(plan, 89 + 21 * legs) {
-        return read;
+    if cost != 0 || legs != 0 {
+        return None;
     }
-    no_plan()
+    Some(Plan {
+        stated: None,
+        query: query(plan),
+        legs,
+    })
+}
+
+// A whole plan file: zero fill bits and nothing after them.
+pub fn plan_from(plan: &[u8]) -> Option<Plan>
+    ensures { Told plan.now result }
+{
+    if plan.len() < 12 {
+        return None;
+    }
+    let read = head(plan)?;
+    if reader::ends(plan, 89 + 21 * read.legs) {
+        Some(read)
+    } else {
+        None
+    }
 }

@@ -3,7 +3,6 @@
 
 ghost use Rattle.std.specs.Prelude.{◌≡◌, ◌+◌, ◌*◌, ◌≤◌, ◌<◌, [], ◌∷◌, length};
 ghost use Rattle.std.proofs.lemmas.List.Edits.{sets};
-ghost use Rattle.network.specs.declared.NetworkFound.{NetworkFound};
 ghost use Rattle.network.specs.Network.{edition1, of_file};
 ghost use Rattle.network.specs.Fields.{leg_fields, values};
 ghost use Rattle.network.specs.InFile.{leg_at, LegThere};
@@ -11,26 +10,17 @@ ghost use Rattle.network.specs.Answers.{network_found};
 ghost use Rattle.read_call.specs.Read.{Reads, listed};
 
 use answer::{Answer, Refusal};
-use network::{NetworkFound, Size};
-use source::Origin;
+use network::Size;
+use source::File;
 
-// Two numbers, and four, from index `at` on.
-fn two(list: &mut [u32], at: usize, a: u32, b: u32)
-    requires { at + 2 ≤ length list.old }
-    ensures { list.new ≡ sets list.old at (a ∷ b ∷ []) }
+// Numbers into the list, from index `at` on: one store each, since a copy of two numbers would wait for them in memory.
+fn store<const N: usize>(list: &mut [u32], at: usize, numbers: &[u32; N])
+    requires { at + N ≤ length list.old }
+    ensures { list.new ≡ sets list.old at numbers.now }
 {
-    list[at] = a;
-    list[at + 1] = b;
-}
-
-fn four(list: &mut [u32], at: usize, a: u32, b: u32, c: u32, d: u32)
-    requires { at + 4 ≤ length list.old }
-    ensures { list.new ≡ sets list.old at (a ∷ b ∷ c ∷ d ∷ []) }
-{
-    list[at] = a;
-    list[at + 1] = b;
-    list[at + 2] = c;
-    list[at + 3] = d;
+    for k in 0..N {
+        list[at + k] = numbers[k];
+    }
 }
 
 // The numbers of the leg that stands at a bit, from index `at` on; the number of its bands. A head and a band are read with one load each.
@@ -40,41 +30,35 @@ fn list_leg(net: &[u8], place: usize, list: &mut [u32], at: usize) -> usize
 {
     let head = reader::field(net, place, 28);
     let bands = head % 16;
-    four(
-        list,
-        at,
+    let fields = [
         head / 0x40_0000,
         head / 0x1_0000 % 64,
         head / 16 % 4096,
         bands,
-    );
+    ];
+    store(list, at, &fields);
     let count = bands as usize;
-    let mut k = 0;
-    while k < count {
+    for k in 0..count {
         let band = reader::field(net, place + 28 + 28 * k, 28);
-        two(list, at + 4 + 2 * k, band / 0x1_0000, band % 0x1_0000);
-        k += 1;
+        store(list, at + 4 + 2 * k, &[band / 0x1_0000, band % 0x1_0000]);
     }
     count
 }
 
 // The numbers of a whole network, whose file is known to be sound.
 fn list_network(net: &[u8], list: &mut [u32], size: Size)
-    requires { (network_found (of_file net.now) ≡ NetworkFound.Sound size) × (3 + 4 * size.legs + 2 * size.bands ≤ length list.old) }
+    requires { (network_found (of_file net.now) ≡ Ok size) × (3 + 4 * size.legs + 2 * size.bands ≤ length list.old) }
     ensures { list.new ≡ listed (of_file net.now) list.old }
 {
     let places = size.places;
     let legs = size.legs;
-    list[0] = 1;
-    two(list, 1, places, legs as u32);
+    store(list, 0, &[1, places, legs as u32]);
     let mut at = 3;
     let mut place = 25;
-    let mut k = 0;
-    while k < legs {
+    for k in 0..legs {
         let bands = list_leg(net, place, list, at);
         at += 4 + 2 * bands;
         place += 28 + 28 * bands;
-        k += 1;
     }
 }
 
@@ -82,19 +66,12 @@ fn list_network(net: &[u8], list: &mut [u32], size: Size)
 pub fn read(net: &[u8], list: &mut [u32]) -> Answer
     ensures { Reads net.now list.old list.new result }
 {
-    let no_list = [0u32; 1];
-    let found = network::network_from(Origin::File, net, &no_list);
-    match found {
-        NetworkFound::Refused(why) => Answer::Refused(why),
-        NetworkFound::Sound(size) => {
-            let count = 3 + 4 * size.legs + 2 * size.bands;
-            let room = list.len();
-            if room < count {
-                return Answer::Refused(Refusal::Room);
-            }
-            list_network(net, list, size);
-            let length = count as u32;
-            Answer::Done(length)
-        }
+    let size = network::network_from(&File(net))?;
+    let count = 3 + 4 * size.legs + 2 * size.bands;
+    let room = list.len();
+    if room < count {
+        return Err(Refusal::Room);
     }
+    list_network(net, list, size);
+    Ok(count as u32)
 }

@@ -39,20 +39,6 @@ impl<'a> Reader<'a> {
     }
 }
 
-// Two fields that stand one after the other.
-#[derive(Clone, Copy)]
-pub struct Two {
-    pub first: u32,
-    pub second: u32,
-}
-
-// Two numbers side by side; covered, so that the walk of `pair` puts no struct together.
-fn both(first: u32, second: u32) -> Two
-    ensures { (result.first ≡ first) × (result.second ≡ second) }
-{
-    Two { first, second }
-}
-
 // One field: a reader is opened, and a field taken.
 pub fn field(file: &[u8], at: usize, width: usize) -> u32
     requires { (1 ≤ width) × (width ≤ 32) × (at + width ≤ 8 * length file.now) }
@@ -62,12 +48,12 @@ pub fn field(file: &[u8], at: usize, width: usize) -> u32
 }
 
 // Two fields, one after the other.
-pub fn pair(file: &[u8], at: usize, first: usize, second: usize) -> Two
+pub fn pair(file: &[u8], at: usize, first: usize, second: usize) -> (u32, u32)
     requires { (1 ≤ first) × (first ≤ 32) × (1 ≤ second) × (second ≤ 32) × (at + first < 2 ^ 64) × (at + first + second ≤ 8 * length file.now) }
-    ensures { (result.first ≡ field file.now at first) × (result.second ≡ field file.now (at + first) second) }
+    ensures { (result.0 ≡ field file.now at first) × (result.1 ≡ field file.now (at + first) second) }
 {
     let reader = open(file, at);
-    both(reader.take(first), reader.past(first).take(second))
+    (reader.take(first), reader.past(first).take(second))
 }
 
 // Are the `width` bits at bit `at` all there?
@@ -87,8 +73,5 @@ pub fn ends(file: &[u8], at: usize) -> bool
         return false;
     }
     let fill = 8 * file.len() - at;
-    if fill == 0 {
-        return true;
-    }
-    field(file, at, fill) == 0
+    fill == 0 || field(file, at, fill) == 0
 }

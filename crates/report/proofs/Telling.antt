@@ -11,12 +11,12 @@ use lib.ListN.{length, take, drop, length-append, length-drop}
 use lib.Seq.{take_all}
 use Rattle.answer.specs.declared.Refusal.{Refusal}
 use Rattle.answer.specs.declared.Refusal.TheVariants.{Room}
-use Rattle.answer.specs.declared.PlanAnswer.{PlanAnswer}
+use Rattle.answer.specs.Plans.{PlanAnswer, plan_filed, none_filed}
+use Rattle.std.specs.Prelude.{Err}
 use Rattle.answer.specs.Numbers.{number_of}
 use Rattle.bits.specs.Field.{field}
 use Rattle.bits.proofs.Bytes.{field-append}
-use Rattle.network.specs.declared.NetworkFound.{NetworkFound}
-use Rattle.network.specs.declared.Size.{Size}
+use Rattle.std.specs.Prelude.{Err}
 use Rattle.network.specs.Reading.{pick}
 use Rattle.network.specs.Network.{of_file}
 use Rattle.network.specs.Answers.{network_found}
@@ -30,10 +30,11 @@ use Rattle.tabled.specs.Judge.{Judged, refuse, serve, judged}
 use Rattle.tabled.specs.Comes.{Comes}
 use Rattle.tabled.proofs.Judging.{judged-refused, comes-to}
 use Rattle.plan_call.specs.Call.{Right, plan, none, Output, Answered, Plans}
-use Rattle.text.specs.Text.{Adds}
+use Rattle.text.specs.declared.Page.{Page}
+use Rattle.text.specs.Text.{Writes}
 use Rattle.chart.specs.Net.{theory_in}
 use Rattle.report.specs.Rides.{rides_in, Ridden}
-use Rattle.report.specs.Report.{answer_text, cost_text, arrive_text, rides_text, Shows, shown, nothing, Prints, latest_of, query_in, Whole, Reports}
+use Rattle.report.specs.Report.{answer_text, cost_text, arrive_text, rides_text, file_text, Shows, shown, nothing, Prints, latest_of, query_in, Whole, Reports}
 use Rattle.report.proofs.Riding.{rides-are}
 
 -- the rides in the front of more bytes
@@ -89,26 +90,26 @@ module _ (N : Network) (q : Query) (asked : Askable N q) where
           a.file,
           a.given,
           a.right,
-          a.answer_is ∙ ap (λ (b : Bool). pick b (a.given (plan_bytes (length a.file.rides))) (PlanAnswer.Refused Room)) fits,
+          a.answer_is ∙ ap (λ (b : Bool). pick b (a.given (plan_bytes (length a.file.rides))) (Err Room)) fits,
           subst (λ (b : Bool). Output b a.file out after) fits a.output_is,
         )
 
-    done : (n : ℕ) (file : PlanFile) (given : ℕ → PlanAnswer) (m : ℕ) → Right N q file given → PlanAnswer.Done n ≡ given m → Output true file out after → Told N q after
+    done : (n : ℕ) (file : PlanFile) (given : ℕ → PlanAnswer) (m : ℕ) → Right N q file given → plan_filed n ≡ given m → Output true file out after → Told N q after
     done n file given m (plan rides named) e (bytes, is, whole) =
         subst (Told N q) (sym whole) (told-file N q rides bytes (drop (length bytes) out) named (named-fits N q asked rides named).0 is)
     done n file given m (none k) e o = let z : ◌≡◌ {A = ℕ} 0 1 = cc in absurd (omega arith)
 
-    not_done : (n : ℕ) (file : PlanFile) (given : ℕ → PlanAnswer) (m : ℕ) → Right N q file given → PlanAnswer.NoPlan n ≡ given m
+    not_done : (n : ℕ) (file : PlanFile) (given : ℕ → PlanAnswer) (m : ℕ) → Right N q file given → none_filed n ≡ given m
         → (rides : List Ride) → Feasible N q rides → ⊥
     not_done n file given m (plan rides named) e = let z : ◌≡◌ {A = ℕ} 0 1 = cc in absurd (omega arith)
     not_done n file given m (none k) e = k
 
-    no-refusal : (why : Refusal) (file : PlanFile) (given : ℕ → PlanAnswer) (m : ℕ) → Right N q file given → PlanAnswer.Refused why ≡ given m → ⊥
+    no-refusal : (why : Refusal) (file : PlanFile) (given : ℕ → PlanAnswer) (m : ℕ) → Right N q file given → Err why ≡ given m → ⊥
     no-refusal why file given m (plan rides named) e = let z : ◌≡◌ {A = ℕ} 0 1 = cc in absurd (omega arith)
     no-refusal why file given m (none k) e = let z : ◌≡◌ {A = ℕ} 0 1 = cc in absurd (omega arith)
 
 module _ (s : List ℕ) (q : Query) (table table' out out' : List ℕ) (lent : 177 ≤ length out) where
-  pub plan-done : (answer : PlanAnswer) (n : ℕ) → answer ≡ PlanAnswer.Done n → Plans s q table table' out out' answer
+  pub plan-done : (answer : PlanAnswer) (n : ℕ) → answer ≡ plan_filed n → Plans s q table table' out out' answer
       → (judged (of_file s) q (length table) ≡ serve (theory_in s)) × Told (theory_in s) q out'
   plan-done answer n e p = at (comes-to s q (length table))
     where
@@ -123,7 +124,7 @@ module _ (s : List ℕ) (q : Query) (table table' out out' : List ℕ) (lent : 1
           let d = data-in (theory_in s) q asked out out' lent answer u.answered in
           (j, done (theory_in s) q asked out out' lent n d.0 d.1 _ d.2 (sym e ∙ d.3) d.4)
 
-  pub plan-none : (answer : PlanAnswer) (n : ℕ) → answer ≡ PlanAnswer.NoPlan n → Plans s q table table' out out' answer
+  pub plan-none : (answer : PlanAnswer) (n : ℕ) → answer ≡ none_filed n → Plans s q table table' out out' answer
       → Prints (judged (of_file s) q (length table)) q (answer_text 10)
   plan-none answer n e p = at (comes-to s q (length table))
     where
@@ -139,7 +140,7 @@ module _ (s : List ℕ) (q : Query) (table table' out out' : List ℕ) (lent : 1
           subst (λ (x : Judged). Prints x q (answer_text 10)) (sym j)
           (nothing (not_done (theory_in s) q asked out out' lent n d.0 d.1 _ d.2 (sym e ∙ d.3)))
 
-  pub plan-refused : (answer : PlanAnswer) (why : Refusal) (k : ℕ) → k ≡ number_of why → answer ≡ PlanAnswer.Refused why → Plans s q table table' out out' answer
+  pub plan-refused : (answer : PlanAnswer) (why : Refusal) (k : ℕ) → k ≡ number_of why → answer ≡ Err why → Plans s q table table' out out' answer
       → Prints (judged (of_file s) q (length table)) q (answer_text k)
   plan-refused answer why k is e p = subst (λ (n : ℕ). Prints (judged (of_file s) q (length table)) q (answer_text n)) (sym is) (at (comes-to s q (length table)))
     where
@@ -155,7 +156,7 @@ module _ (s : List ℕ) (q : Query) (table table' out out' : List ℕ) (lent : 1
           let d = data-in (theory_in s) q asked out out' lent answer u.answered in
           absurd (no-refusal (theory_in s) q asked out out' lent why d.0 d.1 _ d.2 (sym e ∙ d.3))
 
-pub net-refused : (s : List ℕ) (q : Query) (n : ℕ) (why : Refusal) (k : ℕ) → k ≡ number_of why → network_found (of_file s) ≡ NetworkFound.Refused why
+pub net-refused : (s : List ℕ) (q : Query) (n : ℕ) (why : Refusal) (k : ℕ) → k ≡ number_of why → network_found (of_file s) ≡ Err why
     → Prints (judged (of_file s) q n) q (answer_text k)
 net-refused s q n why k is e = subst (λ (x : Judged). Prints x q (answer_text k)) (sym (judged-refused (of_file s) q n why e)) (ap answer_text is)
 
@@ -164,26 +165,29 @@ module _ (s : List ℕ) (q : Query) (file : List ℕ) (t : Told (theory_in s) q 
   told-rides : rides_in file (field file 77 12) ≡ t.rides
   told-rides = ap (rides_in file) t.legs ∙ t.same
 
-  pub told-ridden : (size : Size) → network_found (of_file s) ≡ NetworkFound.Sound size → Ridden s size file q (field file 77 12)
-  told-ridden size ok =
+  pub told-ridden : Ridden s file q (field file 77 12)
+  told-ridden =
       record {
-        sound = ok;
         room = omega (arith, t.legs, t.room);
         few = omega (arith, t.legs, t.few);
         runs = subst (Runs (theory_in s) q) (sym told-rides) t.named.feasible.runs;
       }
 
   pub told_text : (n : ℕ) → judged (of_file s) q n ≡ serve (theory_in s) → Prints (judged (of_file s) q n) q
-      (answer_text 0 ++ (cost_text (field file 45 32) ++ (arrive_text (arrival (theory_in s) q (rides_in file (field file 77 12))) ++ rides_text (theory_in s) q (rides_in file (field file 77 12)))))
+      (file_text (theory_in s) q file)
   told_text n j =
       let N = theory_in s in
       let whole = ap (λ (c : ℕ). answer_text 0 ++ (cost_text c ++ (arrive_text (arrival N q (rides_in file (field file 77 12))) ++ rides_text N q (rides_in file (field file 77 12))))) t.price
       ∙ ap (λ (rs : List Ride). answer_text 0 ++ (cost_text (cost N t.rides) ++ (arrive_text (arrival N q rs) ++ rides_text N q rs))) told-rides in
-      subst (λ (x : Judged). Prints x q (answer_text 0 ++ (cost_text (field file 45 32) ++ (arrive_text (arrival N q (rides_in file (field file 77 12))) ++ rides_text N q (rides_in file (field file 77 12)))))) (sym j) (subst (Shows N q) (sym whole) (shown t.rides t.named))
+      subst (λ (x : Judged). Prints x q (file_text N q file)) (sym j) (subst (Shows N q) (sym whole) (shown t.rides t.named))
 
 -- text from the front on
-pub printed : (j : Judged) (q : Query) (s t : List ℕ) (to : ℕ) (text : List ℕ) → Adds s t 0 to text → Prints j q text → Prints j q (take to t) × (to ≤ length t)
-printed j q s t to text a p = (subst (Prints j q) (sym a.reads) p, a.fits)
+pub front : (s t : Page) (text : List ℕ) → s.at ≡ 0 → Writes s t text → take t.at t.out.now ≡ text
+front s t text e w = w.adds.reads ∙ ap (λ (n : ℕ). take n s.out.now ++ text) e
+
+pub printed : (j : Judged) (q : Query) (s t : Page) (text : List ℕ) → s.at ≡ 0 → Writes s t text → Prints j q text
+    → Prints j q (take t.at t.out.now) × (t.at ≤ length t.out.now) × (t.out.ghost_name ≡ s.out.ghost_name)
+printed j q s t text e w p = (subst (Prints j q) (sym (front s t text e w)) p, w.adds.fits, w.same)
 
 -- the bytes behind the query
 pub rest-is : (input : List ℕ) → take (length input - 5) (drop 5 input) ≡ drop 5 input
@@ -224,10 +228,9 @@ pub latest-other : (t : ℕ) → t ≢ 4095 → t ≡ latest_of t
 latest-other t n = ap (λ (b : Bool). cond b 1439 t) (sym (ne_eqb t 4095 n))
 
 -- the lines of a plan, from what was taken
-pub plan-said : (N : Network) (q : Query) (file : List ℕ) (s t : List ℕ) (to c m n : ℕ) → c ≡ field file 45 32 → n ≡ field file 77 12
-    → m ≡ arrival N q (rides_in file n) → Adds s t 0 to (answer_text 0 ++ (cost_text c ++ (arrive_text m ++ rides_text N q (rides_in file n))))
-    → Adds s t 0 to (answer_text 0 ++ (cost_text (field file 45 32) ++ (arrive_text (arrival N q (rides_in file (field file 77 12))) ++ rides_text N q (rides_in file (field file 77 12)))))
-plan-said N q file s t to c m n e₁ e₂ e₃ h =
-    subst (λ (x : ℕ). Adds s t 0 to (answer_text 0 ++ (cost_text x ++ (arrive_text (arrival N q (rides_in file (field file 77 12))) ++ rides_text N q (rides_in file (field file 77 12)))))) e₁
-    (subst (λ (x : ℕ). Adds s t 0 to (answer_text 0 ++ (cost_text c ++ (arrive_text (arrival N q (rides_in file x)) ++ rides_text N q (rides_in file x))))) e₂
-    (subst (λ (x : ℕ). Adds s t 0 to (answer_text 0 ++ (cost_text c ++ (arrive_text x ++ rides_text N q (rides_in file n))))) e₃ h))
+pub plan-said : (N : Network) (q : Query) (file : List ℕ) (s t : Page) (c m : ℕ) → c ≡ field file 45 32 → m ≡ arrival N q (rides_in file (field file 77 12))
+    → Writes s t (answer_text 0 ++ (cost_text c ++ (arrive_text m ++ rides_text N q (rides_in file (field file 77 12))))) → Writes s t (file_text N q file)
+plan-said N q file s t c m e₁ e₂ h =
+    let rides = rides_text N q (rides_in file (field file 77 12)) in
+    subst (λ (x : ℕ). Writes s t (answer_text 0 ++ (cost_text x ++ (arrive_text (arrival N q (rides_in file (field file 77 12))) ++ rides)))) e₁
+    (subst (λ (x : ℕ). Writes s t (answer_text 0 ++ (cost_text c ++ (arrive_text x ++ rides)))) e₂ h)

@@ -9,6 +9,7 @@ use Rattle.plan.specs.Tie.{Named}
 use Rattle.tabled.specs.Judge.{Judged, refuse, serve, judged}
 use Rattle.tabled.specs.Comes.{asking}
 use Rattle.text.specs.Text.{item, line}
+use Rattle.report.specs.Rides.{rides_in}
 
 -- `answer N`
 abbrev pub answer_word : List ℕ
@@ -58,6 +59,13 @@ rides_text N q (r ∷ rs) = rides_text N q rs ++ leg_text r.leg r.leave (r.leave
 -- answer 0: the cost, the arrival, and the legs
 abbrev pub plan_text : Network → Query → List Ride → List ℕ
 plan_text N q rides = answer_text 0 ++ (cost_text (cost N rides) ++ (arrive_text (arrival N q rides) ++ rides_text N q rides))
+
+-- the same of the plan that a plan file's bytes spell
+abbrev pub file_text : Network → Query → List ℕ → List ℕ
+file_text N q file =
+    answer_text 0
+    ++ (cost_text (field file 45 32)
+    ++ (arrive_text (arrival N q (rides_in file (field file 77 12))) ++ rides_text N q (rides_in file (field file 77 12))))
 
 -- the named plan, or that none is feasible
 pub data Shows (N : Network) (q : Query) : List ℕ → Type 0 where

@@ -8,8 +8,8 @@ use borrow.Author.Tests.{le-leb}
 use lib.Dec.{leb}
 use lib.ListN.{length, take, drop}
 use lib.Seq.{take_at}
-use Rattle.answer.specs.declared.Answer.{Answer}
-use Rattle.answer.specs.declared.Answer.TheVariants.{Done, Refused}
+use Rattle.answer.specs.Numbers.{Answer}
+use Rattle.std.specs.Prelude.{Ok, Err}
 use Rattle.answer.specs.declared.Refusal.TheVariants.{Room}
 use Rattle.bits.specs.Packed.{bits_of, Packed}
 use Rattle.bits.proofs.Packing.{packed-unique}
@@ -29,11 +29,11 @@ record Listing (file list after : List ℕ) (n : ℕ) : Type 0 where
   stands : of_file file ≡ found net end
   front : take n after ≡ numbers_of edition1 net
 
-listing : (file list after : List ℕ) (n : ℕ) → Reads file list after (Done n) → Listing file list after n
+listing : (file list after : List ℕ) (n : ℕ) → Reads file list after (Ok n) → Listing file list after n
 listing file list after n r = go (of_file file) refl r.answer_is r.list_is
   where
     done : (net : Network) (t : Bool)
-        → Done n ≡ pick t (Done (length (numbers_of edition1 net))) (Refused Room)
+        → Ok n ≡ pick t (Ok (length (numbers_of edition1 net))) (Err Room)
         → after ≡ pick t (numbers_of edition1 net ++ drop (length (numbers_of edition1 net)) list) list
         → take n after ≡ numbers_of edition1 net
     done net true a l =
@@ -42,7 +42,7 @@ listing file list after n r = go (of_file file) refl r.answer_is r.list_is
         rw l (take_at ns (drop (length ns) list) n (sym count))
     done net false a l = cc
 
-    go : (x : Found Network) → of_file file ≡ x → Done n ≡ read_answer x (length list) → after ≡ listed x list → Listing file list after n
+    go : (x : Found Network) → of_file file ≡ x → Ok n ≡ read_answer x (length list) → after ≡ listed x list → Listing file list after n
     go (refused why) e a l = let z : ◌≡◌ {A = ℕ} 0 1 = cc in absurd (omega arith)
     go (found net end) e a l =
         record { net = net; end = end; stands = e; front = done net (leb (length (numbers_of edition1 net)) (length list)) a l }
@@ -54,14 +54,14 @@ record Filing (list out after : List ℕ) (n : ℕ) : Type 0 where
   stands : of_list list ≡ found net end
   packed : Packed (fields_of edition1 net) (take n after)
 
-filing : (list out after : List ℕ) (n : ℕ) → Writes list out after (Done n) → Filing list out after n
+filing : (list out after : List ℕ) (n : ℕ) → Writes list out after (Ok n) → Filing list out after n
 filing list out after n w = go (of_list list) refl w.answered
   where
-    size : (k : ℕ) (t : Bool) → Done n ≡ if_room t k → n ≡ k
+    size : (k : ℕ) (t : Bool) → Ok n ≡ if_room t k → n ≡ k
     size k true a = cc
     size k false a = cc
 
-    go : (x : Found Network) → of_list list ≡ x → Done n ≡ write_answer x (length out) → Filing list out after n
+    go : (x : Found Network) → of_list list ≡ x → Ok n ≡ write_answer x (length out) → Filing list out after n
     go (refused why) e a = let z : ◌≡◌ {A = ℕ} 0 1 = cc in absurd (omega arith)
     go (found net end) e a =
         let f = w.written net end n e refl in
@@ -76,7 +76,7 @@ reads-leaves file lent after answer net end e room r =
     let ns = numbers_of edition1 net in
     let fits = le-leb (length ns) (length lent) room in
     record {
-      done = r.answer_is ∙ ap (λ (x : Found Network). read_answer x (length lent)) e ∙ ap (λ (t : Bool). pick t (Done (length ns)) (Refused Room)) fits;
+      done = r.answer_is ∙ ap (λ (x : Found Network). read_answer x (length lent)) e ∙ ap (λ (t : Bool). pick t (Ok (length ns)) (Err Room)) fits;
       left = r.list_is ∙ ap (λ (x : Found Network). listed x lent) e ∙ ap (λ (t : Bool). pick t (ns ++ drop (length ns) lent) lent) fits;
     }
 
@@ -86,8 +86,8 @@ writes-leaves : (list out after file : List ℕ) (answer : Answer) (net : Networ
 writes-leaves list out after file answer net end e packed room w =
     let whole : file_length net ≡ length file = sym packed.size in
     let fits : leb (file_length net) (length out) ≡ true = rw whole (le-leb (length file) (length out) room) in
-    let done : answer ≡ Done (length file) =
-    w.answered ∙ ap (λ (x : Found Network). write_answer x (length out)) e ∙ ap (λ (t : Bool). if_room t (file_length net)) fits ∙ ap Done whole in
+    let done : answer ≡ Ok (length file) =
+    w.answered ∙ ap (λ (x : Found Network). write_answer x (length out)) e ∙ ap (λ (t : Bool). if_room t (file_length net)) fits ∙ ap Ok whole in
     let f = w.written net end (length file) e done in
     let same : f.file ≡ file = packed-unique (fields_of edition1 net) f.file file f.packed packed in
     record { done = done; left = f.front ∙ ap (λ (s : List ℕ). s ++ drop (length s) out) same }

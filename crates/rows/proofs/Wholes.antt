@@ -3,7 +3,7 @@ use Prim.Native.Nat.{ℕ, suc, zero, ◌+◌, ◌*◌, ◌-◌, ◌≤◌, ◌<�
 use native.Mathlib.Omega.{arith}
 use native.Mathlib.Decide.{dec_lt}
 use native.Mathlib.Nat.{mul-le-mul_right, add-mul, one-mul}
-use mathlib.Core.Path.{◌≡◌, refl, sym, ◌∙◌, ap}
+use mathlib.Core.Path.{◌≡◌, sym, ◌∙◌, ap}
 use mathlib.Core.Logic.{◌≢◌, ◌⊎◌, inl, inr}
 use mathlib.Core.List.{List, [], ◌∷◌, ◌++◌}
 use lib.ListN.{length, take, drop, length-take, length-drop, get_or-append, take-append-drop}
@@ -135,20 +135,3 @@ module _ (cells : List ℕ) (w p : ℕ) (fits : p * w + w ≤ length cells) (ys 
 
         below : (i : ℕ) → at ys i ≤ at (row_of cells w p) i
         below i = falls_at i (dec_lt i (first + time)) (dec_lt i (until + time))
-
--- nothing to lower: the table stays
-pub unlowered-row : (cells row : List ℕ) (w p from until time add first : ℕ) → until ≤ first → Search (row_of cells w p) row from until time add first
-    → LowerRow cells cells row w p from until time add w
-unlowered-row cells row w p from until time add first h s = record {
-  only = record { long = refl; others = λ o j n k. refl };
-  lower = record {
-    long = refl;
-    before = λ j k. refl;
-    after = λ j k. refl;
-    ridden = λ j f u. omega (arith, s.passed j f (omega arith));
-  };
-  within = omega arith;
-  kept = λ j k. refl;
-  falls = omega arith;
-  less = λ k. absurd (omega arith);
-}

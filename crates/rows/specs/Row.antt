@@ -1,5 +1,5 @@
 -- What happens to one row of cells.
-use Rattle.std.specs.Prelude.{ℕ, ◌+◌, ◌≤◌, ◌<◌, min, ◌≡◌, List, length, get_or}
+use Rattle.std.specs.Prelude.{ℕ, ◌+◌, ◌≤◌, ◌<◌, min, ◌≡◌, List, length, get_or, Option, Some, None}
 
 -- what a row holds at a column
 abbrev pub at : List ℕ → ℕ → ℕ
@@ -30,6 +30,11 @@ pub record Search (part row : List ℕ) (from until time add first : ℕ) : Type
   pub within : (from ≤ first) × (first ≤ until)
   pub passed : Passed part row from first time add
   pub lowers : first < until → at row first + add < at part (first + time)
+
+-- the first of the columns from..until whose ride arrives below what stands there, or that there is none
+abbrev pub First : List ℕ → List ℕ → ℕ → ℕ → ℕ → ℕ → Option ℕ → Type 0
+First part row from until time add None = Passed part row from until time add
+First part row from until time add (Some first) = (first < until) × Search part row from until time add first
 
 -- A ride from each of the columns from..until: the smaller of what stood where it arrives and what it gives.
 pub record Lower (old new row : List ℕ) (from until time add : ℕ) : Type 0 where

@@ -2,25 +2,11 @@
 #![tactic(auto)]
 
 ghost use Rattle.std.specs.Prelude.{◌≡◌, false, ◌+◌, ◌*◌, ◌-◌, ◌≤◌, ◌<◌, min, length, get_or, replicate};
-ghost use Rattle.rows.specs.Row.{Passed, Search, Lower, Settle};
+ghost use Rattle.rows.specs.Row.{Passed, First, Lower, Settle};
 ghost use Rattle.rows.specs.Whole.{SettleRow, LowerRow};
 
-// What a cell holds where there is no plan.
+// What a cell holds where there is no plan: a number, since the cells are lent over C.
 pub const NO_PLAN: u32 = 4294967295;
-
-// A cell in 64 bits.
-fn wide(x: u32) -> u64
-    ensures { (result ≡ x) × (result < 4294967296) }
-{
-    x as u64
-}
-
-// The smaller of two cells.
-fn least(a: u32, b: u32) -> u32
-    ensures { result ≡ min a b }
-{
-    if a < b { a } else { b }
-}
 
 // Where the next stretch of columns ends.
 fn stretch(from: usize, until: usize) -> usize
@@ -28,17 +14,6 @@ fn stretch(from: usize, until: usize) -> usize
     ensures { (from < result) × (result ≤ until) }
 {
     if until - from < 64 { until } else { from + 64 }
-}
-
-// Every cell becomes `value`.
-pub fn blank(part: &mut [u32], value: u32)
-    ensures { part.new ≡ replicate (length part.old) value }
-{
-    let mut j = 0;
-    while j < part.len() {
-        part[j] = value;
-        j += 1;
-    }
 }
 
 // What stands just before a column; at the first column, what stands there.
@@ -55,12 +30,10 @@ pub fn settle(part: &mut [u32], from: usize, row: &mut [u32])
     ensures { Settle part.old part.new row.new from (length part.old) }
 {
     let mut best = just_before(part, from);
-    let mut j = from;
-    while j < part.len() {
-        best = least(part[j], best);
+    for j in from..part.len() {
+        best = best.min(part[j]);
         part[j] = best;
         row[j] = best;
-        j += 1;
     }
 }
 
@@ -70,7 +43,7 @@ fn may_lower(value: u32, add: u64, cell: u32) -> bool
     requires { add < 1000000000000 }
     ensures { result ≡ false → cell ≤ value + add }
 {
-    (((wide(value) + add) % 0x1_0000_0000) as u32) < cell
+    (((u64::from(value) + add) % 0x1_0000_0000) as u32) < cell
 }
 
 // May a ride from any of the columns from..until arrive below what stands there? It never ends early, so that many columns
@@ -80,32 +53,36 @@ fn any_lower(part: &[u32], row: &[u32], from: usize, until: usize, time: usize, 
     ensures { result ≡ false → Passed part.now row.now from until time add }
 {
     let mut any = false;
-    let mut k = from;
-    while k < until {
+    for k in from..until {
         if may_lower(row[k], add, part[k + time]) {
             any = true;
         }
-        k += 1;
     }
     any
 }
 
-// The first of the columns from..until whose ride arrives below what stands there, or `until`: one column after the other.
-fn search(part: &[u32], row: &[u32], from: usize, until: usize, time: usize, add: u64) -> usize
+// The first of the columns from..until whose ride arrives below what stands there: one column after the other.
+fn search(
+    part: &[u32],
+    row: &[u32],
+    from: usize,
+    until: usize,
+    time: usize,
+    add: u64,
+) -> Option<usize>
     requires { (from ≤ until) × (until ≤ length row.now) × (until + time ≤ length part.now) × (add < 1000000000000) }
-    ensures { Search part.now row.now from until time add result }
+    ensures { First part.now row.now from until time add result }
 {
-    let mut i = from;
-    while i < until {
-        if wide(row[i]) + add < wide(part[i + time]) {
-            return i;
+    for i in from..until {
+        if u64::from(row[i]) + add < u64::from(part[i + time]) {
+            return Some(i);
         }
-        i += 1;
     }
-    i
+    None
 }
 
-// The same, a stretch of 64 columns at a time: only where one of them is lower are they looked at one by one.
+// The same, a stretch of 64 columns at a time: only where one of them is lower are they looked at one by one. (From and until differ at
+// each call below, so that a struct would hold time and add alone, and save no line.)
 pub fn first_lower(
     part: &[u32],
     row: &[u32],
@@ -113,10 +90,11 @@ pub fn first_lower(
     until: usize,
     time: usize,
     add: u64,
-) -> usize
+) -> Option<usize>
     requires { (from ≤ until) × (until ≤ length row.now) × (until + time ≤ length part.now) × (add < 1000000000000) }
-    ensures { Search part.now row.now from until time add result }
+    ensures { First part.now row.now from until time add result }
 {
+    // A while: `step_by(64)` was tried, and the sheet and plan calls took a tenth longer.
     let mut i = from;
     while i < until {
         let end = stretch(i, until);
@@ -125,18 +103,14 @@ pub fn first_lower(
         }
         i = end;
     }
-    i
+    None
 }
 
 // What a ride adds, in 32 bits.
 fn capped(add: u64) -> u32
     ensures { result ≡ min add 4294967295 }
 {
-    if add < NO_PLAN as u64 {
-        add as u32
-    } else {
-        NO_PLAN
-    }
+    add.min(u64::from(NO_PLAN)) as u32
 }
 
 // What a cell becomes that a ride reaches. In 32 bits, so that many are done at a time: a sum that is too large for a cell is cut,
@@ -145,7 +119,7 @@ fn ridden(cell: u32, value: u32, add: u64) -> u32
     ensures { result ≡ min cell (value + add) }
 {
     let small = capped(add);
-    least(cell, least(value, NO_PLAN - small) + small)
+    cell.min(value.min(NO_PLAN - small) + small)
 }
 
 // Rides from the columns from..until: a cell reached becomes what the ride gives, where that is smaller.
@@ -153,10 +127,8 @@ pub fn lower(part: &mut [u32], row: &[u32], from: usize, until: usize, time: usi
     requires { (from ≤ until) × (until ≤ length row.now) × (until + time ≤ length part.old) × (add < 1000000000000) }
     ensures { Lower part.old part.new row.now from until time add }
 {
-    let mut j = from;
-    while j < until {
+    for j in from..until {
         part[j + time] = ridden(part[j + time], row[j], add);
-        j += 1;
     }
 }
 
@@ -170,7 +142,9 @@ pub fn settle_row(cells: &mut [u32], w: usize, p: usize, from: usize, row: &mut 
     settle(&mut cells[start..end], from, row);
 }
 
-// The row of place p, lowered along a ride from the columns from..until: the first column that changed, or w.
+// The row of place p, lowered along a ride from the columns from..until: the first column that changed, or w. Bands and legs are joined
+// by the smaller of their first columns, and an Option would be turned back into w for that. Eight values apart: each ride has others, so
+// a struct of them would be made for one call.
 pub fn lower_row(
     cells: &mut [u32],
     w: usize,
@@ -186,10 +160,9 @@ pub fn lower_row(
 {
     let start = p * w;
     let end = start + w;
-    let first = first_lower(&cells[start..end], row, from, until, time, add);
-    if first == until {
+    let Some(first) = first_lower(&cells[start..end], row, from, until, time, add) else {
         return w;
-    }
+    };
     lower(&mut cells[start..end], row, first, until, time, add);
     first + time
 }

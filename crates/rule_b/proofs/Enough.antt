@@ -3,7 +3,7 @@
 use Prim.Native.Nat.{ℕ, ◌+◌, ◌≤◌, ◌<◌}
 use native.Mathlib.Omega.{arith}
 use native.Mathlib.Decide.{dec_lt}
-use mathlib.Core.Path.{◌≡◌, sym, ◌∙◌, subst}
+use mathlib.Core.Path.{◌≡◌, refl, ◌∙◌, subst}
 use mathlib.Core.Bool.{Bool, true, false}
 use mathlib.Core.Option.{Option, none, some}
 use mathlib.Core.List.{List}
@@ -16,7 +16,7 @@ use Rattle.plan.proofs.Sheets.{steps-fall}
 use borrow.Author.Tests.{leb-true, leb-false}
 use lib.Dec.{leb}
 use Rattle.rule_b.specs.Rule.{Is, RuleAt}
-use Rattle.rule_b.specs.Cursor.{shown, Covers}
+use Rattle.rule_b.specs.Cursor.{Covers}
 
 -- the rule holds at each departure before a minute
 abbrev pub RuleBefore : Minute → Leg → List Step → List Step → Minute → Type 0
@@ -57,18 +57,9 @@ module _ (q : Query) (leg : Leg) (from to : List Step) (falls : Steps q to) (d :
       at (no n) = from-here u (omega arith) l
 
 -- the test itself
-pub covers-test : (has has' : Bool) (x y toll : Cents) → has ≡ true → has' ≡ true → (b : Bool) → b ≡ leb y (x + toll)
-    → Is b (Covers (shown has x) (shown has' y) toll)
-covers-test false has' x y toll e f b t = let z : ◌≡◌ {A = ℕ} 0 1 = cc in absurd (omega arith)
-covers-test true false x y toll e f b t = let z : ◌≡◌ {A = ℕ} 0 1 = cc in absurd (omega arith)
-covers-test true true x y toll e f true t = leb-true y (x + toll) (sym t)
-covers-test true true x y toll e f false t = λ h. let z = leb-false y (x + toll) (sym t) in omega arith
-
-pub covers-none : (has : Bool) (x toll : Cents) (v : Option Cents) → has ≡ false → Covers (shown has x) v toll
-covers-none true x toll v e = let z : ◌≡◌ {A = ℕ} 0 1 = cc in absurd (omega arith)
-covers-none false x toll v e = tt
-
-pub covers-not : (has has' : Bool) (x y toll : Cents) → has ≡ true → has' ≡ false → Covers (shown has x) (shown has' y) toll → ⊥
-covers-not false has' x y toll e f c = let z : ◌≡◌ {A = ℕ} 0 1 = cc in absurd (omega arith)
-covers-not true true x y toll e f c = let z : ◌≡◌ {A = ℕ} 0 1 = cc in absurd (omega arith)
-covers-not true false x y toll e f c = c
+pub covers-test : (x y toll there most : Cents) → there ≡ y → most ≡ x + toll → Is (leb there most) (Covers (some x) (some y) toll)
+covers-test x y toll there most e m = at (leb there most) refl
+  where
+    at : (b : Bool) → leb there most ≡ b → Is b (y ≤ x + toll)
+    at true t = omega (arith, leb-true there most t)
+    at false t = λ h. let z = leb-false there most t in omega arith

@@ -14,7 +14,8 @@ use Rattle.sheet_file.specs.InPlace.{place_at}
 use Rattle.rule_b.specs.declared.Cursor.{Cursor}
 use Rattle.rule_b.specs.declared.Tolls.{Tolls}
 use Rattle.rule_b.specs.Rule.{Is, RuleB}
-use Rattle.rule_b.specs.Cursor.{shown, first_of, start_or, Held, Reached, Begun, Moved, Banded, Covers, LegAsked}
+use Rattle.leg.specs.Price.{price_of}
+use Rattle.rule_b.specs.Cursor.{first_of, start_or, Held, Reached, Begun, Moved, Banded, Covers, LegAsked}
 use Rattle.rule_b.proofs.Walks.{first-none, first_some, none_before, steps-sorted, reached-value, reached-later, reached-begun}
 use Rattle.rule_b.proofs.Bands.{banded-none, banded-later, banded-toll}
 use Rattle.rule_b.proofs.Enough.{RuleBefore, rule-covers, covers-rule, rule-further}
@@ -75,10 +76,10 @@ module _ (s : List ℕ) (leg : Leg) (from to : ℕ) (q : Query) (i j : Cursor) (
     (w : Walking s leg from to q i j tolls d) (arrives : d + leg.time.0 ≤ q.latest)
     (i' : Cursor) (mi : Moved s d i i') (tolls' : Tolls) (tb : Banded leg d tolls') (tn : d < tolls'.next.0)
     (j' : Cursor) (mj : Moved s (d + leg.time.0) j j') where
-  here-i : (u : Minute) → d ≤ u → u < i'.next.0 → value (place_at s from) u ≡ shown i'.has i'.price.0
+  here-i : (u : Minute) → d ≤ u → u < i'.next.0 → value (place_at s from) u ≡ price_of i'.price
   here-i = reached-value s q (place_at s from) d i' mi.held (mi.reached q (place_at s from) w.i_at)
 
-  here-j : value (place_at s to) (d + leg.time.0) ≡ shown j'.has j'.price.0
+  here-j : value (place_at s to) (d + leg.time.0) ≡ price_of j'.price
   here-j =
       reached-value s q (place_at s to) (d + leg.time.0) j' mj.held (mj.reached q (place_at s to) w.j_at) (d + leg.time.0) (omega arith)
       mj.past
@@ -87,15 +88,15 @@ module _ (s : List ℕ) (leg : Leg) (from to : ℕ) (q : Query) (i j : Cursor) (
   toll-here = banded-toll leg w.asked.order d tolls' tb
 
   -- the rule is broken at this departure
-  pub turn-broken : (Covers (shown i'.has i'.price.0) (shown j'.has j'.price.0) tolls'.toll.0 → ⊥)
+  pub turn-broken : (Covers (price_of i'.price) (price_of j'.price) tolls'.toll.0 → ⊥)
       → RuleB q.latest leg (place_at s from) (place_at s to) → ⊥
   turn-broken no_cover rule =
       no_cover
-      (rule-covers q leg (place_at s from) (place_at s to) w.asked.to_place.steps d (shown i'.has i'.price.0) (shown j'.has j'.price.0)
+      (rule-covers q leg (place_at s from) (place_at s to) w.asked.to_place.steps d (price_of i'.price) (price_of j'.price)
       tolls'.toll.0 (here-i d (omega arith) mi.past) here-j (toll-here d (omega arith) tn) (rule d arrives))
 
   -- or it holds up to the next step and the next band
-  pub turn_on : Covers (shown i'.has i'.price.0) (shown j'.has j'.price.0) tolls'.toll.0
+  pub turn_on : Covers (price_of i'.price) (price_of j'.price) tolls'.toll.0
       → (next : Minute) → next ≤ i'.next.0 → next ≤ tolls'.next.0 → d < next
       → Walking s leg from to q i' j' tolls' next
   turn_on cover next ni nt later = record {
@@ -109,13 +110,7 @@ module _ (s : List ℕ) (leg : Leg) (from to : ℕ) (q : Query) (i j : Cursor) (
     before =
         rule-further q leg (place_at s from) (place_at s to) w.asked.to_place.steps d q.latest next w.before
         (λ u l k.
-        covers-rule q leg (place_at s from) (place_at s to) w.asked.to_place.steps d (shown i'.has i'.price.0)
-        (shown j'.has j'.price.0) tolls'.toll.0 here-j cover u l (here-i u l (omega arith)) (toll-here u l (omega arith)));
+        covers-rule q leg (place_at s from) (place_at s to) w.asked.to_place.steps d (price_of i'.price)
+        (price_of j'.price) tolls'.toll.0 here-j cover u l (here-i u l (omega arith)) (toll-here u l (omega arith)));
     upto = omega (arith, held_next s i' mi.held);
   }
-
--- when the next departure would arrive too late, the rule holds at all
-pub walking-done : (s : List ℕ) (leg : Leg) (from to : ℕ) (q : Query) (i j : Cursor) (tolls : Tolls) (d : Minute)
-    → Walking s leg from to q i j tolls d → q.latest < d + leg.time.0
-    → RuleB q.latest leg (place_at s from) (place_at s to)
-walking-done s leg from to q i j tolls d w late u arrives = w.before u (omega arith) arrives

@@ -2,7 +2,7 @@
 use Prim.Native.Nat.{ℕ, zero, suc, ◌+◌, ◌-◌, ◌≤◌, ◌<◌}
 use native.Mathlib.Omega.{arith}
 use mathlib.Core.Path.{◌≡◌, refl, sym, ◌∙◌, ap, ap₂, subst}
-use mathlib.Core.Bool.{true, cond}
+use mathlib.Core.Bool.{cond}
 use mathlib.Core.Option.{Option, none, some}
 use mathlib.Core.List.{List, [], ◌∷◌}
 use borrow.Author.Tests.{le-leb, lt-leb}
@@ -11,7 +11,8 @@ use Rattle.plan.specs.Network.{Minute, Cents, Query}
 use Rattle.plan.specs.Sheet.{Step, or_else, value, Steps}
 use Rattle.sheet_file.specs.InPlace.{step_at, steps_at, place_at}
 use Rattle.rule_b.specs.declared.Cursor.{Cursor}
-use Rattle.rule_b.specs.Cursor.{first_of, shown, ahead, Held, Sorted, Reached, Begun}
+use Rattle.leg.specs.Price.{price_of}
+use Rattle.rule_b.specs.Cursor.{first_of, ahead, Held, Sorted, Reached, Begun}
 
 module _ (s : List ℕ) (at n m : ℕ) (e : n ≡ suc m) where
   pub ahead_more : steps_at s at n ≡ step_at s at ∷ steps_at s (at + 44) m
@@ -55,7 +56,7 @@ steps-sorted q (x ∷ xs) h = h.1
 -- one step further
 module _ (s : List ℕ) (q : Query) (ss : List Step) (t : Minute) (old new : Cursor) (m : ℕ) (more : old.left ≡ suc m)
     (due : field s old.at 12 ≤ t)
-    (at-is : new.at ≡ old.at + 44) (left_is : new.left ≡ m) (has-is : new.has ≡ true) (price_is : new.price.0 ≡ field s (old.at + 12) 32) where
+    (at-is : new.at ≡ old.at + 44) (left_is : new.left ≡ m) (price_is : price_of new.price ≡ some (field s (old.at + 12) 32)) where
   ahead-is : ahead s old ≡ step_at s old.at ∷ ahead s new
   ahead-is = ahead_more s old.at old.left m more ∙ rw (at-is, left_is)
 
@@ -63,20 +64,20 @@ module _ (s : List ℕ) (q : Query) (ss : List Step) (t : Minute) (old new : Cur
   reached-more r = record {
     split = λ u h.
         r.split u h
-        ∙ ap (λ (xs : List Step). or_else (value xs u) (shown old.has old.price.0)) ahead-is
-        ∙ ap (λ b. or_else (or_else (value (ahead s new) u) (cond b (some (field s (old.at + 12) 32)) none)) (shown old.has old.price.0))
+        ∙ ap (λ (xs : List Step). or_else (value xs u) (price_of old.price)) ahead-is
+        ∙ ap (λ b. or_else (or_else (value (ahead s new) u) (cond b (some (field s (old.at + 12) 32)) none)) (price_of old.price))
         (le-leb (field s old.at 12) u (omega (arith, due)))
-        ∙ else-past (value (ahead s new) u) (shown old.has old.price.0) (field s (old.at + 12) 32)
-        ∙ ap₂ (λ b (x : ℕ). or_else (value (ahead s new) u) (shown b x)) (sym has-is) (sym price_is);
+        ∙ else-past (value (ahead s new) u) (price_of old.price) (field s (old.at + 12) 32)
+        ∙ ap (λ v. or_else (value (ahead s new) u) v) (sym price_is);
     sorted = sorted_rest q (step_at s old.at) (ahead s new) (subst (λ (xs : List Step). Sorted q xs) ahead-is r.sorted);
   }
 
 -- what a cursor shows up to its next step
 pub reached-value : (s : List ℕ) (q : Query) (ss : List Step) (t : Minute) (c : Cursor) → Held s c → Reached s q ss t c
-    → (u : Minute) → t ≤ u → u < c.next.0 → value ss u ≡ shown c.has c.price.0
+    → (u : Minute) → t ≤ u → u < c.next.0 → value ss u ≡ price_of c.price
 reached-value s q ss t c h r u l k =
     r.split u l
-    ∙ ap (λ v. or_else v (shown c.has c.price.0)) (none_before q (ahead s c) r.sorted u (omega (arith, h.next_is)))
+    ∙ ap (λ v. or_else v (price_of c.price)) (none_before q (ahead s c) r.sorted u (omega (arith, h.next_is)))
 
 pub reached-later : (s : List ℕ) (q : Query) (ss : List Step) (t t' : Minute) (c : Cursor) → t ≤ t' → Reached s q ss t c → Reached s q ss t' c
 reached-later s q ss t t' c l r = record { split = λ u h. r.split u (omega arith); sorted = r.sorted }
@@ -86,7 +87,7 @@ pub reached-begun : (s : List ℕ) (q : Query) (place : ℕ) (t : Minute) (c : C
     → Reached s q (place_at s place) t c
 reached-begun s q place t c b h = record {
   split = λ u l. sym (else-none (value (place_at s place) u)) ∙ ap (λ (xs : List Step). or_else (value xs u) none) (sym b.all)
-      ∙ ap (λ x. or_else (value (ahead s c) u) (shown x c.price.0)) (sym b.nothing);
+      ∙ ap (λ x. or_else (value (ahead s c) u) (price_of x)) (sym b.nothing);
   sorted = subst (λ (xs : List Step). Sorted q xs) (sym b.all) (steps-sorted q (place_at s place) h);
 }
   where

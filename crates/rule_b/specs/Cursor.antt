@@ -1,8 +1,9 @@
 -- Walking the steps of a place, and the bands of a leg, forward in time.
-use Rattle.std.specs.Prelude.{ℕ, ◌+◌, ◌*◌, ◌≤◌, ◌<◌, ◌≡◌, Bool, true, false, ◌⊎◌, List, [], ◌∷◌, ltb, length, get_or}
+use Rattle.std.specs.Prelude.{ℕ, ◌+◌, ◌*◌, ◌≤◌, ◌<◌, ◌≡◌, None, List, [], ◌∷◌, ltb, length, get_or}
 use Rattle.std.proofs.Math.Option.{Option, none, some}
 use Rattle.leg.specs.declared.Leg.{Leg}
 use Rattle.leg.specs.Ranges.{no_band}
+use Rattle.leg.specs.Price.{price_of}
 use Rattle.leg.specs.Toll.{toll_of_first, either}
 use Rattle.plan.specs.Network.{Minute, Cents, Query}
 use Rattle.plan.specs.Sheet.{Step, or_else, value, StepsAfter, Steps, AtMost}
@@ -19,11 +20,6 @@ never = 4096
 abbrev pub first_of : List Step → Minute
 first_of [] = never
 first_of (x ∷ xs) = x.minute
-
--- the value that a cursor shows
-abbrev pub shown : Bool → Cents → Option Cents
-shown true x = some x
-shown false x = none
 
 -- the steps that a cursor has not passed
 abbrev pub ahead : List ℕ → Cursor → List Step
@@ -42,14 +38,14 @@ Sorted q (x ∷ xs) = StepsAfter q x xs
 
 -- the cursor has passed steps of ss, all of them at or before minute t
 pub record Reached (s : List ℕ) (q : Query) (ss : List Step) (t : Minute) (c : Cursor) : Type 0 where
-  pub split : (u : Minute) → t ≤ u → value ss u ≡ or_else (value (ahead s c) u) (shown c.has c.price.0)
+  pub split : (u : Minute) → t ≤ u → value ss u ≡ or_else (value (ahead s c) u) (price_of c.price)
   pub sorted : Sorted q (ahead s c)
 
 -- before the first step of the place whose count stands at a bit
 pub record Begun (s : List ℕ) (place : ℕ) (c : Cursor) : Type 0 where
   pub held : Held s c
   pub all : ahead s c ≡ place_at s place
-  pub nothing : c.has ≡ false
+  pub nothing : c.price ≡ None
 
 -- what moving a cursor forward to minute t leaves
 pub record Moved (s : List ℕ) (t : Minute) (old new : Cursor) : Type 0 where
@@ -72,10 +68,6 @@ pub record Banded (leg : Leg) (t : Minute) (c : Tolls) : Type 0 where
 abbrev pub Covers : Option Cents → Option Cents → Cents → Type 0
 Covers none v toll = Unit {0}
 Covers (some x) v toll = AtMost v (x + toll)
-
--- one or the other
-abbrev pub Or : Type 0 → Type 0 → Type 0
-Or P Q = P ⊎ Q
 
 -- a place whose steps are as described and lie in the file
 pub record PlaceAsked (s : List ℕ) (place : ℕ) (q : Query) : Type 0 where

@@ -3,14 +3,15 @@
 
 ghost use Rattle.std.specs.Prelude.{◌≡◌, ◌+◌, ◌*◌, ◌≤◌, ◌<◌, length};
 ghost use Rattle.plan.specs.Sheet.{value};
-ghost use Rattle.sheet_file.specs.Window.{window};
+ghost use Rattle.sheet_file.specs.Window.{of_window};
 ghost use Rattle.sheet_file.specs.InPlace.{steps_at, place_at, count_at};
 ghost use Rattle.rule_b.specs.Rule.{Is, RuleB, InOrder};
 ghost use Rattle.network.specs.InFile.{leg_at, LegThere};
-ghost use Rattle.rule_b.specs.Cursor.{first_of, shown, start_or, Held, Begun, Moved, Banded, Covers, Or, PlaceAsked, LegAsked};
+ghost use Rattle.leg.specs.Price.{price_of};
+ghost use Rattle.rule_b.specs.Cursor.{first_of, start_or, Held, Begun, Moved, Banded, Covers, PlaceAsked, LegAsked};
 
-use card::Shown;
 use leg::{Cents, Minute};
+use sheet_file::Window;
 
 // A place in a list of steps: the bit of the next step, how many are left, its minute; and the cost of the last step passed, if there is one.
 #[derive(Clone, Copy)]
@@ -18,8 +19,7 @@ pub struct Cursor {
     pub at: usize,
     pub left: usize,
     pub next: Minute,
-    pub has: bool,
-    pub price: Cents,
+    pub price: Option<Cents>,
 }
 
 // A place in a leg's bands: how many are passed, where the next starts, and the toll of the last that was passed.
@@ -53,48 +53,37 @@ fn begin(sheet: &[u8], place: u32) -> Cursor
         at,
         left,
         next,
-        has: false,
-        price: Cents(0),
+        price: None,
     }
 }
 
 // Past every step up to a minute.
-fn forward(sheet: &[u8], cursor: Cursor, minute: Minute) -> Cursor
+fn forward(sheet: &[u8], mut cursor: Cursor, minute: Minute) -> Cursor
     requires { Held sheet.now cursor × (minute.0 < 4096) }
     ensures { Moved sheet.now minute.0 cursor result }
 {
-    let mut at = cursor.at;
-    let mut left = cursor.left;
-    let mut next = cursor.next;
-    let mut has = cursor.has;
-    let mut price = cursor.price;
-    while next.0 <= minute.0 {
-        price = Cents(reader::field(sheet, at + 12, 32));
-        has = true;
-        at += 44;
-        left -= 1;
-        next = first(sheet, at, left);
+    // A while: it ends at a minute and not at a count.
+    while cursor.next.0 <= minute.0 {
+        let price = Cents(reader::field(sheet, cursor.at + 12, 32));
+        let at = cursor.at + 44;
+        let left = cursor.left - 1;
+        let next = first(sheet, at, left);
+        cursor = Cursor {
+            at,
+            left,
+            next,
+            price: Some(price),
+        };
     }
-    Cursor {
-        at,
-        left,
-        next,
-        has,
-        price,
-    }
+    cursor
 }
 
-// The value at a minute of the place whose count of steps stands at a bit.
-pub fn value_at(sheet: &[u8], place: u32, minute: Minute, earliest: Minute, latest: Minute) -> Shown
-    requires { PlaceAsked sheet.now place (window earliest.0 latest.0) × (minute.0 < 4096) }
-    ensures { value (place_at sheet.now place) minute.0 ≡ shown result.has result.price.0 }
+// The value at a minute of the place whose count of steps stands at a bit, if it has one.
+pub fn value_at(sheet: &[u8], place: u32, minute: Minute, window: Window) -> Option<Cents>
+    requires { PlaceAsked sheet.now place (of_window window) × (minute.0 < 4096) }
+    ensures { value (place_at sheet.now place) minute.0 ≡ price_of result }
 {
-    let cursor = forward(sheet, begin(sheet, place), minute);
-    let price = cursor.price;
-    Shown {
-        has: cursor.has,
-        price,
-    }
+    forward(sheet, begin(sheet, place), minute).price
 }
 
 // Where band k of the leg at a bit starts.
@@ -109,57 +98,38 @@ fn start_of(net: &[u8], leg: usize, count: usize, k: usize) -> Minute
 }
 
 // Past every band that has begun at a minute.
-fn begun(net: &[u8], leg: usize, count: usize, tolls: Tolls, minute: Minute) -> Tolls
+fn begun(net: &[u8], leg: usize, count: usize, mut tolls: Tolls, minute: Minute) -> Tolls
     requires { LegThere net.now leg count × InOrder (leg_at net.now leg) × Banded (leg_at net.now leg) minute.0 tolls × (minute.0 < 4096) }
     ensures { Banded (leg_at net.now leg) minute.0 result × (minute.0 < result.next.0) }
 {
-    let mut passed = tolls.passed;
-    let mut next = tolls.next;
-    let mut toll = tolls.toll;
-    while next.0 <= minute.0 {
-        toll = Cents(reader::field(net, leg + 28 + 28 * passed + 12, 16));
-        passed += 1;
-        next = start_of(net, leg, count, passed);
+    // A while: it ends at a minute and not at a count.
+    while tolls.next.0 <= minute.0 {
+        let toll = Cents(reader::field(net, leg + 28 + 28 * tolls.passed + 12, 16));
+        let passed = tolls.passed + 1;
+        let next = start_of(net, leg, count, passed);
+        tolls = Tolls { passed, next, toll };
     }
-    Tolls { passed, next, toll }
+    tolls
 }
 
 // Does the value at the arrival cover the value at the departure and the toll?
-fn covered(from: Cursor, tolls: Tolls, to: Cursor) -> bool
-    ensures { Is result (Covers (shown from.has from.price.0) (shown to.has to.price.0) tolls.toll.0) }
+pub fn covered(from: Option<Cents>, toll: Cents, to: Option<Cents>) -> bool
+    ensures { Is result (Covers (price_of from) (price_of to) toll.0) }
 {
-    if !from.has {
+    let Some(from) = from else {
         return true;
-    }
-    if !to.has {
+    };
+    let Some(to) = to else {
         return false;
-    }
-    to.price.0 as u64 <= from.price.0 as u64 + tolls.toll.0 as u64
-}
-
-// The smaller of two minutes.
-fn sooner(a: Minute, b: Minute) -> Minute
-    ensures { (result.0 ≤ a.0) × (result.0 ≤ b.0) × Or (result.0 ≡ a.0) (result.0 ≡ b.0) }
-{
-    if a.0 < b.0 {
-        return a;
-    }
-    b
+    };
+    u64::from(to.0) <= u64::from(from.0) + u64::from(toll.0)
 }
 
 // Does the sheet obey rule (b) for the leg at a bit of the network? Nothing but the value at the arrival changes between two steps and two band starts,
 // and that only falls: so the rule is tested at the steps of the place that the leg leaves, and where a band starts.
-pub fn leg_obeys(
-    net: &[u8],
-    leg: usize,
-    sheet: &[u8],
-    from: u32,
-    to: u32,
-    earliest: Minute,
-    latest: Minute,
-) -> bool
-    requires { LegThere net.now leg (leg_at net.now leg).count × LegAsked sheet.now (leg_at net.now leg) from to (window earliest.0 latest.0) }
-    ensures { Is result (RuleB latest.0 (leg_at net.now leg) (place_at sheet.now from) (place_at sheet.now to)) }
+pub fn leg_obeys(net: &[u8], leg: usize, sheet: &[u8], from: u32, to: u32, window: Window) -> bool
+    requires { LegThere net.now leg (leg_at net.now leg).count × LegAsked sheet.now (leg_at net.now leg) from to (of_window window) }
+    ensures { Is result (RuleB window.latest.0 (leg_at net.now leg) (place_at sheet.now from) (place_at sheet.now to)) }
 {
     let time = Minute(reader::field(net, leg + 12, 12));
     let count = reader::field(net, leg + 24, 4) as usize;
@@ -172,16 +142,17 @@ pub fn leg_obeys(
         toll: Cents(0),
     };
     let mut departure = i.next;
-    while departure.0 + time.0 <= latest.0 {
+    // A while: the next departure is where a step or a band starts, not one minute on.
+    while departure.0 + time.0 <= window.latest.0 {
         i = forward(sheet, i, departure);
         tolls = begun(net, leg, count, tolls, departure);
         let after = departure.0 + time.0;
         let arrival = Minute(after);
         j = forward(sheet, j, arrival);
-        if !covered(i, tolls, j) {
+        if !covered(i.price, tolls.toll, j.price) {
             return false;
         }
-        departure = sooner(i.next, tolls.next);
+        departure = Minute(i.next.0.min(tolls.next.0));
     }
     true
 }

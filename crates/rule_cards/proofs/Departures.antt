@@ -1,44 +1,31 @@
 -- The rule at one departure: what the cards show is what the rule compares. Assumes nothing.
 use Prim.Native.Nat.{ℕ, ◌+◌, ◌≤◌, ◌<◌}
 use native.Mathlib.Omega.{arith}
-use mathlib.Core.Path.{◌≡◌, sym, ap, subst}
+use mathlib.Core.Path.{◌≡◌, sym, subst}
 use mathlib.Core.Bool.{Bool, true, false}
 use mathlib.Core.Option.{Option, none, some}
 use mathlib.Core.List.{List}
-use borrow.Author.Tests.{leb-true, leb-false}
-use lib.Dec.{leb}
-use lib.ListN.{get_or}
-use native.Mathlib.Nat.{zero-add}
 use native.Mathlib.Decide.{dec_lt}
+use Rattle.std.specs.Prelude.{Some, None}
+use Rattle.std.specs.Option.{is_some}
+use Rattle.leg.specs.declared.Cents.{Cents as CentsStruct}
 use Rattle.leg.specs.declared.Leg.{Leg}
 use Rattle.leg.specs.Toll.{toll_at}
 use Rattle.plan.specs.Network.{Minute, Cents}
 use Rattle.plan.specs.Sheet.{Step, value, AtMost}
-use Rattle.card.specs.Card.{slot}
 use Rattle.rule_b.specs.Rule.{Is, RuleAt}
-use Rattle.rule_b.specs.Cursor.{shown, Covers}
+use Rattle.leg.specs.Price.{price_of}
+use Rattle.rule_b.specs.Cursor.{Covers}
 use Rattle.rule_cards.specs.Cards.{RuleIf}
 
--- the test itself
-pub at-most-test : (has : Bool) (x most : Cents) → has ≡ true → (b : Bool) → b ≡ leb x most → Is b (AtMost (shown has x) most)
-at-most-test false x most e b t = let z : ◌≡◌ {A = ℕ} 0 1 = cc in absurd (omega arith)
-at-most-test true x most e true t = leb-true x most (sym t)
-at-most-test true x most e false t = λ h. let z = leb-false x most (sym t) in omega arith
-
-pub at-most-not : (has : Bool) (x most : Cents) → has ≡ false → AtMost (shown has x) most → ⊥
-at-most-not true x most e h = let z : ◌≡◌ {A = ℕ} 0 1 = cc in omega arith
-at-most-not false x most e h = h
-
 -- no value at the departure: nothing is asked
-pub covers-nothing : (has : Bool) (x toll : Cents) (w : Option Cents) → has ≡ false → Covers (shown has x) w toll
-covers-nothing true x toll w e = let z : ◌≡◌ {A = ℕ} 0 1 = cc in absurd (omega arith)
-covers-nothing false x toll w e = tt
+pub covers-nothing : (r : Rattle.std.specs.Prelude.Option CentsStruct) (w : Option Cents) (toll : Cents) → is_some r ≡ false → Covers (price_of r) w toll
+covers-nothing None w toll e = tt
+covers-nothing (Some x) w toll e = let z : ◌≡◌ {A = ℕ} 0 1 = cc in absurd (omega arith)
 
--- a value there: the one at the arrival is to be at most this much
-pub covers-some : (has : Bool) (x toll : Cents) (w u : Option Cents) (b : Bool) → has ≡ true → w ≡ u → Is b (AtMost u (x + toll))
-    → Is b (Covers (shown has x) w toll)
-covers-some false x toll w u b e f h = let z : ◌≡◌ {A = ℕ} 0 1 = cc in absurd (omega arith)
-covers-some true x toll w u b e f h = subst (λ (v : Option Cents). Is b (AtMost v (x + toll))) (sym f) h
+-- what covers the values covers those that the cards show
+pub covers-same : (b : Bool) (v : Option Cents) (w u : Option Cents) (toll : Cents) → w ≡ u → Is b (Covers v u toll) → Is b (Covers v w toll)
+covers-same b v w u toll e h = subst (λ (o : Option Cents). Is b (Covers v o toll)) (sym e) h
 
 -- the rule at a departure says no more than this
 module _ (leg : Leg) (i j : List Step) (d arrival : Minute) (time : ℕ) (v : Option Cents) (toll : Cents)
@@ -65,10 +52,6 @@ module _ (leg : Leg) (i j : List Step) (d arrival : Minute) (time : ℕ) (v : Op
 -- too late a departure is not asked about
 pub rule-late : (latest : Minute) (leg : Leg) (i j : List Step) (d time : Minute) → leg.time.0 ≡ time → latest < d + time → RuleIf latest leg i j d
 rule-late latest leg i j d time e late = λ h. absurd (omega arith)
-
--- a card that begins its list
-pub slot-first : (xs : List ℕ) (k : ℕ) → slot xs 0 k ≡ get_or xs k 0
-slot-first xs k = ap (λ (n : ℕ). get_or xs n 0) (zero-add k)
 
 -- what holds of the first k and of k, holds of the first k + 1
 pub one_more : (P : ℕ → Type 0) (k : ℕ) → ((n : ℕ) → n < k → P n) → P k → (n : ℕ) → n < k + 1 → P n

@@ -2,7 +2,7 @@
 use Prim.Native.Nat.{ℕ, zero, suc, ◌+◌, ◌-◌, ◌*◌, ◌≤◌, ◌<◌}
 use native.Mathlib.Omega.{arith}
 use native.Mathlib.Decide.{dec_lt}
-use mathlib.Core.Path.{◌≡◌, refl, sym, ◌∙◌, ap, ap₂, subst}
+use mathlib.Core.Path.{◌≡◌, refl, sym, ◌∙◌, ap, subst}
 use mathlib.Core.Bool.{Bool, true, false, cond}
 use mathlib.Core.Logic.{inl, inr}
 use mathlib.Core.Option.{Option, none, some}
@@ -20,11 +20,14 @@ use Rattle.plan.specs.Sheet.{Step, or_else, value, Steps}
 use Rattle.sheet_file.specs.InPlace.{step_at, steps_at, place_at, count_at}
 use Rattle.rule_b.specs.Rule.{InOrder}
 use Rattle.network.specs.InFile.{leg_at}
-use Rattle.rule_b.specs.Cursor.{first_of, shown, Sorted}
+use Rattle.leg.specs.Price.{price_of}
+use Rattle.rule_b.specs.Cursor.{first_of, Sorted}
 use Rattle.rule_b.proofs.Walks.{first-none, first_some, none_before, steps-sorted}
 use Rattle.network.proofs.InFile.{band-there}
+use Rattle.card.specs.declared.Card.{Card}
 use Rattle.card.specs.Card.{slot, never, Rising, Carded, Begun}
-use Rattle.rule_cards.specs.Cards.{Ready, HoldsSteps, HoldsTolls, StepAt}
+use Rattle.card.specs.One.{Ready}
+use Rattle.rule_cards.specs.Cards.{HoldsSteps, HoldsTolls, StepAt, toll_shown}
 
 -- ---- any card
 
@@ -56,8 +59,21 @@ module _ (s : List ℕ) (bit width count size : ℕ) (minutes prices : List ℕ)
       close (no m) = omega arith
       close (yes l) = absurd (omega (arith, b.before count l, card.rest count (omega arith) (omega (arith, b.few))))
 
-  pub ready : at ≤ 100000 → size ≤ 16 → at + size ≤ length minutes → at + size ≤ length prices → Ordered s bit width count → Ready minutes prices at size
-  ready near small room price_room order = record { card = record { near = near; small = small; room = room; rises = slots-rise order; within = slot-within }; price_room = price_room }
+-- a card that was filled can be looked at
+pub ready : (s : List ℕ) (bit width count : ℕ) (c : Card) → Carded s bit width count (length c.minutes.now) c.minutes.now c.prices.now 0
+    → length c.minutes.now ≤ 16 → length c.minutes.now ≤ length c.prices.now → Ordered s bit width count → Ready c
+ready s bit width count c card small price_room order =
+    let size = length c.minutes.now in
+    record {
+      card = record {
+        near = omega arith;
+        small = small;
+        room = omega arith;
+        rises = slots-rise s bit width count size c.minutes.now c.prices.now 0 card order;
+        within = slot-within s bit width count size c.minutes.now c.prices.now 0 card;
+      };
+      price_room = price_room;
+    }
 
 -- ---- a place's steps
 
@@ -122,8 +138,8 @@ ordered-up s bit width count order i (suc d) h =
     let e : i + suc d ≡ i + d + 1 = omega arith in
     rw e (omega (arith, ordered-up s bit width count order i d (omega arith), order (i + d) (omega arith)))
 
-module _ (q : Query) (s : List ℕ) (place : ℕ) (steps : Steps q (place_at s place)) (minutes prices : List ℕ) (at : ℕ)
-    (card : Carded s (place + 12) 32 (count_at s place) 16 minutes prices at) where
+module _ (q : Query) (s : List ℕ) (place : ℕ) (steps : Steps q (place_at s place)) (c : Card)
+    (card : Carded s (place + 12) 32 (count_at s place) (length c.minutes.now) c.minutes.now c.prices.now 0) where
   sorted : Sorted q (place_at s place)
   sorted = steps-sorted q (place_at s place) steps
 
@@ -131,11 +147,11 @@ module _ (q : Query) (s : List ℕ) (place : ℕ) (steps : Steps q (place_at s p
   place-ordered = steps-ordered q s (place + 12) (count_at s place) sorted
 
   -- THE CARD SHOWS THE PLACE'S VALUE
-  pub holds-steps : HoldsSteps minutes prices at (place_at s place)
+  pub holds-steps : HoldsSteps c (place_at s place)
   holds-steps t r low shows = close shows.slots refl
     where
       n-few : shows.slots ≤ count_at s place
-      n-few = begun-few s (place + 12) 32 (count_at s place) 16 minutes prices at card t shows.slots low shows.begun
+      n-few = begun-few s (place + 12) 32 (count_at s place) (length c.minutes.now) c.minutes.now c.prices.now 0 card t shows.slots low shows.begun
 
       value-is : value (place_at s place) t ≡ last_of s (place + 12) shows.slots
       value-is =
@@ -143,28 +159,26 @@ module _ (q : Query) (s : List ℕ) (place : ℕ) (steps : Steps q (place_at s p
           (λ k h. omega (arith, shows.begun.before k h, card.written.minute_is k (omega (arith, n-few))))
           (λ h. omega (arith, shows.begun.after shows.slots (omega arith) (omega (arith, card.few)), card.written.minute_is shows.slots h))
 
-      close : (n : ℕ) → shows.slots ≡ n → value (place_at s place) t ≡ shown r.has r.price.0
+      close : (n : ℕ) → shows.slots ≡ n → value (place_at s place) t ≡ price_of r
       close zero e =
-          let (no_value, no-price) = shows.nothing e in
-          value-is ∙ ap (last_of s (place + 12)) e ∙ ap (λ b. shown b r.price.0) (sym no_value)
+          value-is ∙ ap (last_of s (place + 12)) e ∙ ap (λ x. price_of x) (sym (shows.nothing e))
       close (suc m) e =
           let one : suc m ≡ m + 1 = omega arith in
-          let (is-value, price) = shows.last m (e ∙ one) in
           let same = card.written.price_is m (omega (arith, n-few, e)) in
           value-is ∙ ap (last_of s (place + 12)) e
-          ∙ ap₂ (λ b (x : ℕ). shown b x) (sym is-value) (sym (price ∙ same))
+          ∙ ap some (sym same) ∙ ap (λ x. price_of x) (sym (shows.last m (e ∙ one)))
 
   -- and step k with its cents
-  pub step-on-card : (k : ℕ) → k < count_at s place → value (place_at s place) (slot minutes at k) ≡ some (slot prices at k)
+  pub step-on-card : (k : ℕ) → k < count_at s place → value (place_at s place) (slot c.minutes.now 0 k) ≡ some (slot c.prices.now 0 k)
   step-on-card k h =
-      let t = slot minutes at k in
+      let t = slot c.minutes.now 0 k in
       let is = card.written.minute_is k h in
       let next : k + 1 ≡ suc k = omega arith in
       value-begun q s t (suc k) (place + 12) (count_at s place) (omega (arith, is, field_below s (place + 12 + k * 44) 12)) (omega arith) sorted
       (λ m l. earlier m (omega arith)) (λ l. omega (arith, is, subst (λ (n : ℕ). field s (place + 12 + k * 44) 12 < field s (place + 12 + n * 44) 12) next (place-ordered k (omega arith))))
       ∙ ap some (sym (card.written.price_is k h))
     where
-      earlier : (m : ℕ) → m ≤ k → field s (place + 12 + m * 44) 12 ≤ slot minutes at k
+      earlier : (m : ℕ) → m ≤ k → field s (place + 12 + m * 44) 12 ≤ slot c.minutes.now 0 k
       earlier m l =
           let e : m + (k - m) ≡ k = omega arith in
           let up = ordered-up s (place + 12) 32 (count_at s place) place-ordered m (k - m) (omega (arith, e)) in
@@ -179,9 +193,9 @@ step-number s bit (suc count) m (inr h) =
     let (k, low, e) = step-number s (bit + 44) count m h in
     (suc k, omega arith, let same : bit + 44 + k * 44 ≡ bit + suc k * 44 = omega arith in e ∙ ap (λ (p : ℕ). field s p 12) same)
 
-pub step-slot : (s : List ℕ) (place : ℕ) (minutes prices : List ℕ) (at : ℕ) → Carded s (place + 12) 32 (count_at s place) 16 minutes prices at
-    → (m : Minute) → StepAt (place_at s place) m → (k : ℕ) × (k < count_at s place) × (m ≡ slot minutes at k)
-step-slot s place minutes prices at card m h =
+pub step-slot : (s : List ℕ) (place : ℕ) (c : Card) → Carded s (place + 12) 32 (count_at s place) (length c.minutes.now) c.minutes.now c.prices.now 0
+    → (m : Minute) → StepAt (place_at s place) m → (k : ℕ) × (k < count_at s place) × (m ≡ slot c.minutes.now 0 k)
+step-slot s place c card m h =
     let (k, low, e) = step-number s (place + 12) (count_at s place) m h in
     (k, low, e ∙ sym (card.written.minute_is k low))
 
@@ -195,15 +209,15 @@ tolls-later bands t n (suc m) late =
     ap (λ (k : ℕ). toll_of_first k bands t) e ∙ toll-later (n + m) bands t (late (n + m) (omega arith) (omega arith))
     ∙ tolls-later bands t n m (λ k l h. late k l (omega arith))
 
-module _ (s : List ℕ) (at : ℕ) (order : InOrder (leg_at s at)) (starts tolls : List ℕ)
-    (card : Carded s (at + 28) 16 (leg_at s at).count 8 starts tolls 0) where
-  start_is : (k : ℕ) → k < (leg_at s at).count → (get_or (leg_at s at).bands k no_band).start.0 ≡ slot starts 0 k
+module _ (s : List ℕ) (at : ℕ) (order : InOrder (leg_at s at)) (c : Card)
+    (card : Carded s (at + 28) 16 (leg_at s at).count (length c.minutes.now) c.minutes.now c.prices.now 0) where
+  start_is : (k : ℕ) → k < (leg_at s at).count → (get_or (leg_at s at).bands k no_band).start.0 ≡ slot c.minutes.now 0 k
   start_is k h =
       let e : at + 28 + 28 * k ≡ at + 28 + k * (12 + 16) = omega arith in
       ap (λ (b : Band). b.start.0) (band-there s (at + 28) (leg_at s at).count k h)
       ∙ ap (λ (p : ℕ). field s p 12) e ∙ sym (card.written.minute_is k h)
 
-  toll-is : (k : ℕ) → k < (leg_at s at).count → (get_or (leg_at s at).bands k no_band).toll.0 ≡ slot tolls 0 k
+  toll-is : (k : ℕ) → k < (leg_at s at).count → (get_or (leg_at s at).bands k no_band).toll.0 ≡ slot c.prices.now 0 k
   toll-is k h =
       let e : at + 28 + 28 * k + 12 ≡ at + 28 + k * (12 + 16) + 12 = omega arith in
       ap (λ (b : Band). b.toll.0) (band-there s (at + 28) (leg_at s at).count k h)
@@ -214,8 +228,8 @@ module _ (s : List ℕ) (at : ℕ) (order : InOrder (leg_at s at)) (starts tolls
       omega (arith, order.rises k h, start_is k (omega arith), start_is (k + 1) h, card.written.minute_is k (omega arith), card.written.minute_is (k + 1) h)
 
   -- the toll where just the first n bands have begun
-  toll-begun-at : (t n : ℕ) → n + 1 ≤ (leg_at s at).count → slot starts 0 n ≤ t → ((k : ℕ) → n + 1 ≤ k → k < (leg_at s at).count → t < slot starts 0 k)
-      → toll_at (leg_at s at) t ≡ slot tolls 0 n
+  toll-begun-at : (t n : ℕ) → n + 1 ≤ (leg_at s at).count → slot c.minutes.now 0 n ≤ t → ((k : ℕ) → n + 1 ≤ k → k < (leg_at s at).count → t < slot c.minutes.now 0 k)
+      → toll_at (leg_at s at) t ≡ slot c.prices.now 0 n
   toll-begun-at t n few due late =
       let e : (leg_at s at).count ≡ n + 1 + ((leg_at s at).count - (n + 1)) = omega arith in
       ap (λ (k : ℕ). toll_of_first k (leg_at s at).bands t) e
@@ -224,29 +238,29 @@ module _ (s : List ℕ) (at : ℕ) (order : InOrder (leg_at s at)) (starts tolls
       ∙ toll-is n (omega arith)
 
   -- THE CARD SHOWS THE LEG'S TOLL
-  pub holds-tolls : HoldsTolls starts tolls 0 (leg_at s at)
+  pub holds-tolls : HoldsTolls c (leg_at s at)
   unfolding toll_of_first
   holds-tolls t r low shows = close shows.slots refl
     where
       n-few : shows.slots ≤ (leg_at s at).count
-      n-few = begun-few s (at + 28) 16 (leg_at s at).count 8 starts tolls 0 card t shows.slots low shows.begun
+      n-few = begun-few s (at + 28) 16 (leg_at s at).count (length c.minutes.now) c.minutes.now c.prices.now 0 card t shows.slots low shows.begun
 
-      close : (n : ℕ) → shows.slots ≡ n → toll_at (leg_at s at) t ≡ r.price.0
+      close : (n : ℕ) → shows.slots ≡ n → toll_at (leg_at s at) t ≡ toll_shown r
       close zero e =
           let e' : (leg_at s at).count ≡ 0 + (leg_at s at).count = omega arith in
           ap (λ (k : ℕ). toll_of_first k (leg_at s at).bands t) e'
-          ∙ tolls-later (leg_at s at).bands t 0 (leg_at s at).count (λ k l h. omega (arith, shows.begun.after k (omega (arith, e)) (omega (arith, order.few_bands)), start_is k (omega arith)))
-          ∙ sym (shows.nothing e).1
+          ∙ tolls-later (leg_at s at).bands t 0 (leg_at s at).count (λ k l h. omega (arith, shows.begun.after k (omega (arith, e)) (omega (arith, card.few)), start_is k (omega arith)))
+          ∙ ap (λ x. toll_shown x) (sym (shows.nothing e))
       close (suc m) e =
           let one : suc m ≡ m + 1 = omega arith in
           toll-begun-at t m (omega (arith, n-few, e)) (shows.begun.before m (omega (arith, e)))
-          (λ k l h. shows.begun.after k (omega (arith, e)) (omega (arith, order.few_bands)))
-          ∙ sym (shows.last m (e ∙ one)).1
+          (λ k l h. shows.begun.after k (omega (arith, e)) (omega (arith, card.few)))
+          ∙ ap (λ x. toll_shown x) (sym (shows.last m (e ∙ one)))
 
   -- and band k with its toll
-  pub band-on-card : (k : ℕ) → k < (leg_at s at).count → toll_at (leg_at s at) (slot starts 0 k) ≡ slot tolls 0 k
+  pub band-on-card : (k : ℕ) → k < (leg_at s at).count → toll_at (leg_at s at) (slot c.minutes.now 0 k) ≡ slot c.prices.now 0 k
   band-on-card k h =
-      toll-begun-at (slot starts 0 k) k (omega arith) (omega arith)
+      toll-begun-at (slot c.minutes.now 0 k) k (omega arith) (omega arith)
       (λ m l low.
       let e : k + 1 + (m - (k + 1)) ≡ m = omega arith in
       let up = ordered-up s (at + 28) 16 (leg_at s at).count bands-ordered (k + 1) (m - (k + 1)) (omega (arith, e)) in
@@ -259,5 +273,5 @@ module _ (s : List ℕ) (at : ℕ) (order : InOrder (leg_at s at)) (starts tolls
       ))
 
   -- where band k starts
-  pub band-slot : (k : ℕ) → k < (leg_at s at).count → (get_or (leg_at s at).bands k no_band).start.0 ≡ slot starts 0 k
+  pub band-slot : (k : ℕ) → k < (leg_at s at).count → (get_or (leg_at s at).bands k no_band).start.0 ≡ slot c.minutes.now 0 k
   band-slot k h = start_is k h

@@ -1,1 +1,2 @@
 pub mod Cards
+pub mod Laid

@@ -7,7 +7,8 @@ use mathlib.Core.Path.{◌≡◌, refl, sym, ap, ◌∙◌, subst}
 use mathlib.Core.Logic.{◌≢◌}
 use mathlib.Core.List.{List, [], ◌∷◌, ◌++◌}
 use lib.ListN.{length, get_or, drop}
-use Rattle.answer.specs.declared.PlanAnswer.{PlanAnswer}
+use Rattle.answer.specs.Plans.{PlanAnswer, plan_filed, none_filed}
+use Rattle.std.specs.Prelude.{Err}
 use Rattle.answer.specs.declared.Refusal.TheVariants.{Room}
 use Rattle.bits.specs.Field.{Put}
 use Rattle.bits.specs.Packed.{item}
@@ -43,7 +44,7 @@ sheet-file zero s t u sheet n is zeros size edition places rest =
 
 -- without room nothing is written
 no_room : (N : Network) (q : Query) (out : List ℕ) (sheet : List (List Step)) → OurSheet N q sheet → (given : ℕ → PlanAnswer) → Right N q given
-    → length out < sheet_bytes sheet → Answered N q out out (PlanAnswer.Refused Room)
+    → length out < sheet_bytes sheet → Answered N q out out (Err Room)
 no_room N q out sheet ours given right h =
     let full = lt-leb _ _ h in
     record { sheet = sheet; ours = ours; given = given; right = right; answer_is = rw full; output_is = rw full refl }
@@ -73,10 +74,10 @@ module _ (s : List ℕ) (size : Size) (a : Asked) (cells : List ℕ) (k : Tabled
       (our-sheet (theory_in s) (query_of a) k.servable.asked cells
       (subst (λ (p : ℕ). p * width (query_of a) ≤ length cells) (sym n) k.room) k.table)
 
-  right-none : cell_at (query_of a) cells a.end a.latest.0 ≡ no_plan → Right (theory_in s) (query_of a) PlanAnswer.NoPlan
+  right-none : cell_at (query_of a) cells a.end a.latest.0 ≡ no_plan → Right (theory_in s) (query_of a) none_filed
   right-none e = none (none-feasible (theory_in s) (query_of a) k.servable.asked (cell_at (query_of a) cells) k.table e)
 
-  right-some : cell_at (query_of a) cells a.end a.latest.0 ≢ no_plan → Right (theory_in s) (query_of a) PlanAnswer.Done
+  right-some : cell_at (query_of a) cells a.end a.latest.0 ≢ no_plan → Right (theory_in s) (query_of a) plan_filed
   unfolding Attained
   right-some n =
       let w = (table-least (theory_in s) (query_of a) k.servable.asked (cell_at (query_of a) cells) k.table a.end a.latest.0
@@ -85,19 +86,19 @@ module _ (s : List ℕ) (size : Size) (a : Asked) (cells : List ℕ) (k : Tabled
 
   module _ (out : List ℕ) (n : ℕ) (w : Weighed cells (width (query_of a)) size.places n) where
     -- 9
-    pub too_long : length out < n → Answered (theory_in s) (query_of a) out out (PlanAnswer.Refused Room)
+    pub too_long : length out < n → Answered (theory_in s) (query_of a) out out (Err Room)
     too_long h = at (ℕ_discrete (cell_at (query_of a) cells a.end a.latest.0) no_plan)
       where
-        at : Dec (cell_at (query_of a) cells a.end a.latest.0 ≡ no_plan) → Answered (theory_in s) (query_of a) out out (PlanAnswer.Refused Room)
-        at (yes e) = no_room (theory_in s) (query_of a) out _ ours PlanAnswer.NoPlan (right-none e) (omega (arith, w.weight a.earliest.0))
-        at (no e) = no_room (theory_in s) (query_of a) out _ ours PlanAnswer.Done (right-some e) (omega (arith, w.weight a.earliest.0))
+        at : Dec (cell_at (query_of a) cells a.end a.latest.0 ≡ no_plan) → Answered (theory_in s) (query_of a) out out (Err Room)
+        at (yes e) = no_room (theory_in s) (query_of a) out _ ours none_filed (right-none e) (omega (arith, w.weight a.earliest.0))
+        at (no e) = no_room (theory_in s) (query_of a) out _ ours plan_filed (right-some e) (omega (arith, w.weight a.earliest.0))
 
     module _ (h : n ≤ length out) (bytes : List ℕ)
         (is : FileOf (sheet_in cells (width (query_of a)) a.earliest.0 size.places) bytes) where
       -- 10
-      pub no-plan : cell_at (query_of a) cells a.end a.latest.0 ≡ no_plan → Answered (theory_in s) (query_of a) out (bytes ++ drop n out) (PlanAnswer.NoPlan n)
-      no-plan e = room (theory_in s) (query_of a) out bytes _ ours PlanAnswer.NoPlan (right-none e) is n (w.weight a.earliest.0) h
+      pub no-plan : cell_at (query_of a) cells a.end a.latest.0 ≡ no_plan → Answered (theory_in s) (query_of a) out (bytes ++ drop n out) (none_filed n)
+      no-plan e = room (theory_in s) (query_of a) out bytes _ ours none_filed (right-none e) is n (w.weight a.earliest.0) h
 
       -- 0
-      pub done : cell_at (query_of a) cells a.end a.latest.0 ≢ no_plan → Answered (theory_in s) (query_of a) out (bytes ++ drop n out) (PlanAnswer.Done n)
-      done e = room (theory_in s) (query_of a) out bytes _ ours PlanAnswer.Done (right-some e) is n (w.weight a.earliest.0) h
+      pub done : cell_at (query_of a) cells a.end a.latest.0 ≢ no_plan → Answered (theory_in s) (query_of a) out (bytes ++ drop n out) (plan_filed n)
+      done e = room (theory_in s) (query_of a) out bytes _ ours plan_filed (right-some e) is n (w.weight a.earliest.0) h

@@ -5,7 +5,8 @@ use mathlib.Core.Bool.{Bool, true, false}
 use mathlib.Core.List.{List, ◌++◌}
 use lib.Dec.{leb}
 use lib.ListN.{length, drop}
-use Rattle.answer.specs.declared.PlanAnswer.{PlanAnswer}
+use Rattle.answer.specs.Plans.{PlanAnswer}
+use Rattle.std.specs.Prelude.{Err}
 use Rattle.answer.specs.declared.Refusal.TheVariants.{Room}
 use Rattle.bits.proofs.Packing.{packed-unique}
 use Rattle.network.specs.Reading.{pick}
@@ -31,8 +32,8 @@ answered-once N q out x y a b h k =
     let same = our-sheet-once N q h.sheet k.sheet h.ours k.ours in
     let given = right-once N q h.right k.right in (
       h.answer_is
-          ∙ ap (λ (f : List (List Step)). pick (leb (sheet_bytes f) (length out)) (h.given (sheet_bytes f)) (PlanAnswer.Refused Room)) same
-          ∙ ap (λ (g : ℕ → PlanAnswer). pick (leb (sheet_bytes k.sheet) (length out)) (g (sheet_bytes k.sheet)) (PlanAnswer.Refused Room)) given
+          ∙ ap (λ (f : List (List Step)). pick (leb (sheet_bytes f) (length out)) (h.given (sheet_bytes f)) (Err Room)) same
+          ∙ ap (λ (g : ℕ → PlanAnswer). pick (leb (sheet_bytes k.sheet) (length out)) (g (sheet_bytes k.sheet)) (Err Room)) given
           ∙ sym k.answer_is,
       output-once (leb (sheet_bytes k.sheet) (length out)) k.sheet out x y
           (subst (λ (f : List (List Step)). Output (leb (sheet_bytes f) (length out)) f out x) same h.output_is) k.output_is,

@@ -1,6 +1,5 @@
 -- What the loops keep, and one turn of each.
 use Prim.Native.Nat.{ℕ, suc, ◌+◌, ◌-◌, ◌*◌, ◌/◌, ◌≤◌, ◌<◌}
-use native.Mathlib.Nat.{mul-le-mul}
 use native.Mathlib.Omega.{arith}
 use mathlib.Core.Path.{◌≡◌, refl, sym, ap, ◌∙◌, subst}
 use mathlib.Core.List.{List, [], ◌∷◌, ◌++◌}
@@ -124,19 +123,13 @@ module _ (row : List ℕ) (t : Minute) (first : List ℕ) (at : ℕ) where
           }
 
 -- a place: its steps, and then their number in front of them
-pub place-puts : (row : List ℕ) (t : Minute) (at : ℕ) (first mid last : List ℕ) (count : ℕ) → Counted row count
-    → Puts first mid (at + 12) (steps_fields (steps_of t row)) → Put mid last at 12 count → Puts first last at (place_fields (steps_of t row))
-place-puts row t at first mid last count k h p =
+pub place-puts : (row : List ℕ) (t : Minute) (at behind : ℕ) (first mid last : List ℕ) (count : ℕ) → behind ≡ at + 12 → Counted row count
+    → Puts first mid behind (steps_fields (steps_of t row)) → Put mid last at 12 count → Puts first last at (place_fields (steps_of t row))
+place-puts row t at behind first mid last count is k h p =
     subst (λ (n : ℕ). Puts first last at (item 12 n ∷ steps_fields (steps_of t row))) (k.count t)
-    (puts-front {fs = item 12 count ∷ []} h (puts_one p))
+    (puts-front {fs = item 12 count ∷ []} (rw is at h) (puts_one p))
 
 -- ---- the places are weighed
-
--- where a row begins
-pub start_small : (cells : List ℕ) (w n p : ℕ) → Table cells w n → p < n → p * w ≤ 184320
-start_small cells w n p table h =
-    let below : p ≤ 64 = omega (arith, table.few) in
-    omega (arith, mul-le-mul below table.narrow)
 
 next_place : (cells : List ℕ) (w : ℕ) (t : Minute) (n p : ℕ) → p < n
     → places_from cells w t p (n - p) ≡ steps_of t (row_of cells w p) ∷ places_from cells w t (p + 1) (n - (p + 1))
@@ -154,17 +147,12 @@ pub record Weighing (cells : List ℕ) (w n bits p : ℕ) : Type 0 where
   pub small : bits ≤ 15 + 126732 * p
   pub rest : (t : Minute) → bits + bits_of (places_fields (places_from cells w t p (n - p))) ≡ 15 + bits_of (places_fields (sheet_in cells w t n))
 
-pub weighing-none : (cells : List ℕ) (w n : ℕ) → Weighing cells w n 15 0
-weighing-none cells w n =
-    let e : n - 0 ≡ n = omega arith in
-    record { within = omega arith; small = omega arith; rest = λ t. ap (λ (k : ℕ). 15 + bits_of (places_fields (places_from cells w t 0 k))) e }
-
 module _ (cells : List ℕ) (w n bits p : ℕ) (c : Weighing cells w n bits p) (table : Table cells w n) where
-  pub weighing-done : n ≤ p → Weighed cells w n ((bits + 7) / 8)
-  weighing-done h =
+  pub weighing-done : n ≤ p → (r : ℕ) → r ≡ (bits + 7) / 8 → Weighed cells w n r
+  weighing-done h r is =
       record {
-        small = omega (arith, c.small, c.within, table.few);
-        weight = λ t. omega (arith, c.rest t, ap bits_of (no_place cells w t n p h));
+        small = omega (arith, is, c.small, c.within, table.few);
+        weight = λ t. omega (arith, is, c.rest t, ap bits_of (no_place cells w t n p h));
       }
 
   module _ (h : p < n) where
@@ -197,20 +185,6 @@ pub record Placing (cells : List ℕ) (w n : ℕ) (t : Minute) (first out : List
   pub byte : (i : ℕ) → get_or out i 0 < 256
 
 module _ (cells : List ℕ) (w n : ℕ) (t : Minute) (first : List ℕ) (table : Table cells w n) where
-  pub placing-none : RoomAt first 15 (places_fields (sheet_in cells w t n)) → Placing cells w n t first first 15 0
-  placing-none r =
-      let e : n ≡ n - 0 = omega arith in
-      record {
-        within = omega arith;
-        near = omega arith;
-        room = subst (λ (k : ℕ). 15 + bits_of (places_fields (places_from cells w t 0 k)) ≤ 8 * length first) e r.room;
-        left =
-            subst (λ (k : ℕ). Left first first 15 15 (places_fields (places_from cells w t 0 k)) (places_fields (sheet_in cells w t n))) e
-            (left-all first 15 (places_fields (sheet_in cells w t n)));
-        long = refl;
-        byte = r.byte;
-      }
-
   module _ (out : List ℕ) (at p : ℕ) (c : Placing cells w n t first out at p) where
     pub placing-done : n ≤ p → Puts first out 15 (places_fields (sheet_in cells w t n))
     placing-done h =

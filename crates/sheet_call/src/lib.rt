@@ -10,16 +10,19 @@ ghost use Rattle.tabled.specs.Tabled.{Tabled};
 ghost use Rattle.chart.specs.Net.{theory_in};
 ghost use Rattle.sheet_call.specs.Rows.{step_to, steps_of, sheet_in};
 ghost use Rattle.sheet_file.specs.Fields.{step_fields, steps_fields, place_fields, places_fields, sheet_bytes, FileOf};
-ghost use Rattle.sheet_call.specs.Parts.{Counted, RoomAt, Table, Weighed};
+ghost use Rattle.sheet_call.specs.Parts.{Counted, RoomAt, Weighed};
 ghost use Rattle.sheet_call.specs.Sheet.{Answered, Sheets};
 
-use answer::{PlanAnswer, Refusal};
+mod filled;
+
+use answer::{Filed, PlanAnswer, Refusal};
+use filled::Filled;
 use leg::{Cents, Minute};
 use network::Size;
 use plan_file::Query;
-use tabled::Tabling;
+use walk::Table;
 
-// What such a cell shows for a cost: above every cost.
+// What such a cell shows for a cost: above every cost, so that the least so far begins with it.
 const NO_COST: u32 = 67108863;
 
 // How many steps a row has.
@@ -29,32 +32,25 @@ fn count_steps(row: &[u32]) -> u32
 {
     let mut was = NO_COST;
     let mut count = 0;
-    let mut k = 0;
-    while k < row.len() {
-        let cost = row[k] / 64;
+    for cell in row {
+        let cost = *cell / 64;
         if cost < was {
             was = cost;
             count += 1;
         }
-        k += 1;
     }
     count
 }
 
 // How many bytes the sheet's file has.
-fn weigh(cells: &[u32], w: usize, places: u32) -> u32
-    requires { Table cells.now w places }
-    ensures { Weighed cells.now w places result }
+fn weigh(table: &Filled) -> u32
+    ensures { Weighed table.now.cells.now table.now.w table.now.places result }
 {
     let mut bits = 15;
-    let mut p = 0;
-    while p < places {
-        let start = p as usize * w;
-        let end = start + w;
-        bits += 12 + 44 * count_steps(&cells[start..end]);
-        p += 1;
+    for p in 0..table.places {
+        bits += 12 + 44 * count_steps(table.row(p));
     }
-    (bits + 7) / 8
+    bits.div_ceil(8)
 }
 
 // One step.
@@ -66,15 +62,14 @@ fn put_step(out: &mut [u8], at: usize, minute: Minute, price: Cents)
     bits::put(out, at + 12, 32, price.0);
 }
 
-// The steps of a row; how many.
+// The steps of a row; how many. The walk of `count_steps` again: what is done at a step, handed over as a closure, would be longer than the walk.
 fn put_steps(row: &[u32], earliest: Minute, out: &mut [u8], at: usize) -> u32
     requires { (earliest.0 + length row.now ≤ 2880) × RoomAt out.old at (steps_fields (steps_of earliest.0 row.now)) }
     ensures { Counted row.now result × Puts out.old out.new at (steps_fields (steps_of earliest.0 row.now)) }
 {
     let mut was = NO_COST;
     let mut count = 0;
-    let mut column = 0;
-    while column < row.len() {
+    for column in 0..row.len() {
         let cost = row[column] / 64;
         if cost < was {
             put_step(
@@ -86,7 +81,6 @@ fn put_steps(row: &[u32], earliest: Minute, out: &mut [u8], at: usize) -> u32
             was = cost;
             count += 1;
         }
-        column += 1;
     }
     count
 }
@@ -103,29 +97,25 @@ fn put_place(row: &[u32], earliest: Minute, out: &mut [u8], at: usize) -> usize
 }
 
 // All places, behind edition and number of places.
-fn put_places(cells: &[u32], w: usize, places: u32, earliest: Minute, out: &mut [u8])
-    requires { Table cells.now w places × (earliest.0 + w ≤ 2880) × RoomAt out.old 15 (places_fields (sheet_in cells.now w earliest.0 places)) }
-    ensures { Puts out.old out.new 15 (places_fields (sheet_in cells.now w earliest.0 places)) }
+fn put_places(table: &Filled, earliest: Minute, out: &mut [u8])
+    requires { (earliest.0 + table.now.w ≤ 2880) × RoomAt out.old 15 (places_fields (sheet_in table.now.cells.now table.now.w earliest.0 table.now.places)) }
+    ensures { Puts out.old out.new 15 (places_fields (sheet_in table.now.cells.now table.now.w earliest.0 table.now.places)) }
 {
     let mut at = 15;
-    let mut p = 0;
-    while p < places {
-        let start = p as usize * w;
-        let end = start + w;
-        at = put_place(&cells[start..end], earliest, out, at);
-        p += 1;
+    for p in 0..table.places {
+        at = put_place(table.row(p), earliest, out, at);
     }
 }
 
 // The file of the sheet that a filled table shows.
-fn write_sheet(cells: &[u32], w: usize, places: u32, earliest: Minute, file: &mut [u8])
-    requires { Table cells.now w places × (earliest.0 + w ≤ 2880) × (length file.old ≡ sheet_bytes (sheet_in cells.now w earliest.0 places)) }
-    ensures { FileOf (sheet_in cells.now w earliest.0 places) file.new }
+fn write_sheet(table: &Filled, earliest: Minute, file: &mut [u8])
+    requires { (earliest.0 + table.now.w ≤ 2880) × (length file.old ≡ sheet_bytes (sheet_in table.now.cells.now table.now.w earliest.0 table.now.places)) }
+    ensures { FileOf (sheet_in table.now.cells.now table.now.w earliest.0 table.now.places) file.new }
 {
     bits::clear(file);
     bits::put(file, 0, 8, 1);
-    bits::put(file, 8, 7, places);
-    put_places(cells, w, places, earliest, file);
+    bits::put(file, 8, 7, table.places);
+    put_places(table, earliest, file);
 }
 
 // From the filled table of some network: 9, or the file and 10 or 0.
@@ -137,15 +127,21 @@ fn answer(size: Size, query: Query, cells: &[u32], out: &mut [u8]) -> PlanAnswer
     let earliest = query.earliest;
     let latest = query.latest;
     let w = (latest.0 - earliest.0 + 1) as usize;
-    let bytes = weigh(cells, w, size.places);
+    let table = Filled {
+        cells,
+        w,
+        places: size.places,
+    };
+    let bytes = weigh(&table);
     if out.len() < bytes as usize {
-        return PlanAnswer::Refused(Refusal::Room);
+        return Err(Refusal::Room);
     }
-    write_sheet(cells, w, size.places, earliest, &mut out[..bytes as usize]);
-    if walk::cell(cells, query, query.end, latest) == rows::NO_PLAN {
-        return PlanAnswer::NoPlan(bytes);
+    write_sheet(&table, earliest, &mut out[..bytes as usize]);
+    let at_end = Table { cells, query }.cell(query.end, latest);
+    if at_end == rows::NO_PLAN {
+        return Ok(Filed::NoPlan(bytes));
     }
-    PlanAnswer::Done(bytes)
+    Ok(Filed::Plan(bytes))
 }
 
 // THE SHEET CALL.
@@ -167,9 +163,6 @@ pub fn sheet(
         earliest: Minute(earliest),
         latest: Minute(latest),
     };
-    let tabling = tabled::fill_for(net, query, table);
-    match tabling {
-        Tabling::Refused(why) => PlanAnswer::Refused(why),
-        Tabling::Filled(size) => answer(size, query, table, out),
-    }
+    let size = tabled::fill_for(net, query, table)?;
+    answer(size, query, table, out)
 }

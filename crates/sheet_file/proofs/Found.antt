@@ -1,9 +1,12 @@
 -- What a found sheet is like: its steps are as the theory wants them, and they lie inside the file. Assumes nothing.
+use mathlib.Core.Bool.{◌&&◌}
 use Prim.Native.Nat.{ℕ, zero, suc, ◌+◌, ◌*◌, ◌-◌, ◌≤◌, ◌<◌}
 use native.Mathlib.Omega.{arith}
 use native.Mathlib.Decide.{ℕ_discrete}
 use mathlib.Core.Path.{◌≡◌, refl, sym, ◌∙◌, ap, subst}
 use mathlib.Core.Bool.{Bool, true, false}
+use Rattle.std.specs.Prelude.{None}
+use Rattle.std.specs.Bool.{then_some}
 use mathlib.Core.List.{List, [], ◌∷◌, ◌++◌}
 use borrow.Author.Tests.{leb-true, ltb-true}
 use lib.Dec.{leb, ltb}
@@ -11,13 +14,12 @@ use lib.ListN.{length, get_or, set, length-append, get_or-append}
 use lib.Seq.{get_or-set_same, get_or-set_other, get_or-append-add}
 use Rattle.answer.specs.declared.Refusal.TheVariants.{Short, Tail, SheetFile}
 use Rattle.bits.specs.Field.{field}
-use Rattle.source.specs.Source.{Source, both, file_of}
+use Rattle.source.specs.Source.{Source, file_of}
 use Rattle.network.specs.Reading.{Found, refused, found, next, pick}
 use Rattle.source.proofs.Laws.{both_true}
 use Rattle.network.proofs.Inversion.{check-step, field_step, inner-step}
 use Rattle.plan.specs.Network.{Minute, Cents, Query}
 use Rattle.plan.specs.Sheet.{Step, StepsAfter, Steps}
-use Rattle.sheet_file.specs.declared.SheetFound.{SheetFound}
 use Rattle.sheet_file.specs.SheetFile.{step, steps, one_place, places, top, body, sheet_of, any_cost}
 use Rattle.sheet_file.specs.Window.{window}
 use Rattle.sheet_file.specs.InPlace.{place_at, count_at, Nothing, Indexed, Judged}
@@ -36,7 +38,7 @@ step-inv : (s : List ℕ) (at : ℕ) (low latest : Minute) (limit : Cents) (x : 
     → step low latest limit (file_of s) at ≡ found x end → StepRead s at low latest limit x end
 step-inv s at low latest limit x end e =
     let m = field_step x end (leb (at + 12) (8 * length s)) Short (field s at 12) (at + 12) _ e in
-    let w = check-step x end (both (leb low (field s at 12)) (leb (field s at 12) latest)) SheetFile (at + 12) _ m.1 in
+    let w = check-step x end (◌&&◌ (leb low (field s at 12)) (leb (field s at 12) latest)) SheetFile (at + 12) _ m.1 in
     let p = field_step x end (leb (at + 12 + 32) (8 * length s)) Short (field s (at + 12) 32) (at + 12 + 32) _ w.1 in
     let f = check-step x end (ltb (field s (at + 12) 32) limit) SheetFile (at + 12 + 32) _ p.1 in
     let b = both_true (leb low (field s at 12)) (leb (field s at 12) latest) w.0 in
@@ -180,31 +182,31 @@ module _ (s : List ℕ) (q : Query) (n : ℕ) where
 
 -- ---- the whole file
 
-judged-nothing : (s : List ℕ) (n : ℕ) (x : Found (List (List Step))) (r : SheetFound) → Nothing x → r.sound ≡ false → Judged s n x r
-judged-nothing s n (refused why) r h e = e
-judged-nothing s n (found a at) r h e = absurd h
+judged-nothing : (s : List ℕ) (n : ℕ) (x : Found (List (List Step))) → Nothing x → Judged s n x None
+judged-nothing s n (refused why) h = tt
+judged-nothing s n (found a at) h = absurd h
 
-module _ (s : List ℕ) (q : Query) (n : ℕ) (r : SheetFound) where
-  pub judged-top : Nothing (top n (file_of s) 0) → r.sound ≡ false → Judged s n (sheet_of n q s) r
-  judged-top h e = judged-nothing s n (sheet_of n q s) r (nothing-next (top n (file_of s) 0) (λ _ at. body n q (file_of s) at) h) e
+module _ (s : List ℕ) (q : Query) (n : ℕ) where
+  pub judged-top : Nothing (top n (file_of s) 0) → Judged s n (sheet_of n q s) None
+  judged-top h = judged-nothing s n (sheet_of n q s) (nothing-next (top n (file_of s) 0) (λ _ at. body n q (file_of s) at) h)
 
   module _ (t : top n (file_of s) 0 ≡ found tt 15) where
-    pub judged-places : Nothing (places n q (file_of s) 15) → r.sound ≡ false → Judged s n (sheet_of n q s) r
-    judged-places h e =
-        judged-nothing s n (sheet_of n q s) r
-        (subst (λ x. Nothing (next x (λ _ at. body n q (file_of s) at))) (sym t) (nothing-next (places n q (file_of s) 15) _ h)) e
+    pub judged-places : Nothing (places n q (file_of s) 15) → Judged s n (sheet_of n q s) None
+    judged-places h =
+        judged-nothing s n (sheet_of n q s)
+        (subst (λ x. Nothing (next x (λ _ at. body n q (file_of s) at))) (sym t) (nothing-next (places n q (file_of s) 15) _ h))
 
-    pub judged-all : (sheet : List (List Step)) (end : ℕ) → places n q (file_of s) 15 ≡ found sheet end → Indexed s n r.index sheet
-        → r.sound ≡ (file_of s).ends end
-        → Judged s n (sheet_of n q s) r
-    judged-all sheet end p i e =
-        subst (λ x. Judged s n (next x (λ _ at. body n q (file_of s) at)) r) (sym t)
-        (subst (λ x. Judged s n (next x (λ all at. next (pick ((file_of s).ends at) (found (tt {0}) at) (refused Tail)) (λ _ at'. found all at'))) r) (sym p)
-        (last ((file_of s).ends end) e))
+    pub judged-all : (sheet : List (List Step)) (end : ℕ) (index : List ℕ) → places n q (file_of s) 15 ≡ found sheet end → Indexed s n index sheet
+        → (ends : Bool) → ends ≡ (file_of s).ends end
+        → Judged s n (sheet_of n q s) (then_some ends index)
+    judged-all sheet end index p i ends e =
+        subst (λ x. Judged s n (next x (λ _ at. body n q (file_of s) at)) (then_some ends index)) (sym t)
+        (subst (λ x. Judged s n (next x (λ all at. next (pick ((file_of s).ends at) (found (tt {0}) at) (refused Tail)) (λ _ at'. found all at'))) (then_some ends index)) (sym p)
+        (subst (λ (b : Bool). Judged s n (next (pick b (found (tt {0}) end) (refused Tail)) (λ _ at'. found sheet at')) (then_some ends index)) e (last ends)))
       where
-        last : (b : Bool) → r.sound ≡ b → Judged s n (next (pick b (found (tt {0}) end) (refused Tail)) (λ _ at'. found sheet at')) r
-        last true e = (e, i)
-        last false e = e
+        last : (b : Bool) → Judged s n (next (pick b (found (tt {0}) end) (refused Tail)) (λ _ at'. found sheet at')) (then_some b index)
+        last true = i
+        last false = tt
 
 -- ---- what is found, for whoever reads on
 

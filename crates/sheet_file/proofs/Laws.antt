@@ -3,22 +3,22 @@ use Prim.Native.Nat.{ℕ, zero, suc, ◌+◌, ◌*◌, ◌-◌, ◌≤◌, ◌<�
 use native.Mathlib.Omega.{arith}
 use native.Mathlib.Nat.{add_assoc}
 use native.Mathlib.Numerals.{add-one}
-use mathlib.Core.Path.{◌≡◌, refl, sym, ◌∙◌, ap, subst}
+use mathlib.Core.Path.{◌≡◌, refl, sym, ◌∙◌, ap}
 use mathlib.Core.Bool.{Bool, true, false}
 use mathlib.Core.List.{List, [], ◌∷◌, ◌++◌, append_assoc}
-use borrow.Author.Tests.{le-leb, lt-leb, lt-ltb, le-ltb, ne_eqb, leb-true}
+use borrow.Author.Tests.{le-leb, lt-ltb, leb-true}
 use lib.Dec.{leb, eqb}
 use lib.ListN.{length}
 use Rattle.answer.specs.declared.Refusal.{Refusal}
-use Rattle.answer.specs.declared.Refusal.TheVariants.{Short, SheetFile}
+use Rattle.answer.specs.declared.Refusal.TheVariants.{SheetFile}
 use Rattle.bits.specs.Field.{field}
 use Rattle.bits.proofs.Fields.{field_below}
-use Rattle.source.specs.Source.{Source, both, file_of}
+use Rattle.source.specs.Source.{Source, file_of}
 use Rattle.network.specs.Reading.{Found, refused, found, next, pick}
-use Rattle.plan.specs.Network.{Minute, Cents, Query}
+use Rattle.plan.specs.Network.{Minute, Cents}
 use Rattle.plan.specs.Sheet.{Step}
-use Rattle.sheet_file.specs.SheetFile.{step, steps, one_place, top, any_cost}
-use Rattle.sheet_file.specs.InPlace.{step_at, steps_at, place_at, count_at, Nothing, Tested}
+use Rattle.sheet_file.specs.SheetFile.{step, steps, top}
+use Rattle.sheet_file.specs.InPlace.{step_at, steps_at, Nothing, Tested}
 
 -- a reading that finds nothing on the way finds nothing
 pub nothing-next : {A B : Type 0} (x : Found A) (k : A → ℕ → Found B) → Nothing x → Nothing (next x k)
@@ -39,35 +39,8 @@ pub tested-false : {A : Type 0} (b : Bool) (x : Found A) (a : A) (at : ℕ) → 
 tested-false true x a at e t = let z : ◌≡◌ {A = ℕ} 0 1 = cc in absurd (omega arith)
 tested-false false x a at e t = t
 
-both-no : (a : Bool) → both a false ≡ false
-both-no true = refl
-both-no false = refl
-
 -- one step, by the file's bits
 module _ (s : List ℕ) (at : ℕ) (low latest : Minute) (limit : Cents) where
-  pub step-short : leb (at + 44) (8 * length s) ≡ false → Nothing (step low latest limit (file_of s) at)
-  step-short e =
-      nothing-after (leb (at + 12) (8 * length s)) Short (field s at 12) (at + 12) _
-      (nothing-after (both (leb low (field s at 12)) (leb (field s at 12) latest)) SheetFile (tt {0}) (at + 12) _
-      (rw (add_assoc at 12 32, e) tt))
-
-  pub step-low : field s at 12 < low → Nothing (step low latest limit (file_of s) at)
-  step-low h =
-      nothing-after (leb (at + 12) (8 * length s)) Short (field s at 12) (at + 12) _
-      (rw (lt-leb low (field s at 12) h) tt)
-
-  pub step-late : latest < field s at 12 → Nothing (step low latest limit (file_of s) at)
-  step-late h =
-      nothing-after (leb (at + 12) (8 * length s)) Short (field s at 12) (at + 12) _
-      (rw (lt-leb (field s at 12) latest h, both-no (leb low (field s at 12))) tt)
-
-  pub step-dear : limit ≤ field s (at + 12) 32 → Nothing (step low latest limit (file_of s) at)
-  step-dear h =
-      nothing-after (leb (at + 12) (8 * length s)) Short (field s at 12) (at + 12) _
-      (nothing-after (both (leb low (field s at 12)) (leb (field s at 12) latest)) SheetFile (tt {0}) (at + 12) _
-      (nothing-after (leb (at + 12 + 32) (8 * length s)) Short (field s (at + 12) 32) (at + 12 + 32) _
-      (rw (le-ltb (field s (at + 12) 32) limit h) tt)))
-
   pub step-sound : leb (at + 44) (8 * length s) ≡ true → low ≤ field s at 12 → field s at 12 ≤ latest → field s (at + 12) 32 < limit
       → step low latest limit (file_of s) at ≡ found (step_at s at) (at + 44)
   step-sound e l m p =
@@ -163,14 +136,6 @@ minute-small s at minute price e = omega (arith, ap (λ (x : Step). x.minute) e,
 
 -- ---- the head
 module _ (s : List ℕ) (n : ℕ) where
-  pub top-short : leb (0 + 15) (8 * length s) ≡ false → Nothing (top n (file_of s) 0)
-  top-short e =
-      nothing-after (leb (0 + 8) (8 * length s)) Short (field s 0 8) (0 + 8) _
-      (nothing-after (eqb (field s 0 8) 1) SheetFile (tt {0}) (0 + 8) _ (rw e tt))
-
-  pub top-edition : (field s 0 8 ≡ 1 → ⊥) → Nothing (top n (file_of s) 0)
-  top-edition h = nothing-after (leb (0 + 8) (8 * length s)) Short (field s 0 8) (0 + 8) _ (rw (ne_eqb (field s 0 8) 1 h) tt)
-
   pub top-places : (b : Bool) → leb (0 + 15) (8 * length s) ≡ true → field s 0 8 ≡ 1 → b ≡ eqb (field s 8 7) n → Tested b (top n (file_of s) 0) tt 15
   top-places b e h t =
       let first : leb 8 (8 * length s) ≡ true = le-leb 8 (8 * length s) (omega (arith, leb-true 15 (8 * length s) e)) in
@@ -179,22 +144,3 @@ module _ (s : List ℕ) (n : ℕ) where
       at : (b : Bool) → Tested b (pick b (found (tt {0}) 15) (refused SheetFile)) tt 15
       at true = refl
       at false = tt
-
--- ---- one place
-module _ (s : List ℕ) (at : ℕ) (q : Query) where
-  pub place_short : leb (at + 12) (8 * length s) ≡ false → Nothing (one_place q (file_of s) at)
-  place_short e = rw e tt
-
-  pub place-many : 2880 < field s at 12 → Nothing (one_place q (file_of s) at)
-  place-many h = nothing-after (leb (at + 12) (8 * length s)) Short (field s at 12) (at + 12) _ (rw (lt-leb (field s at 12) 2880 h) tt)
-
-  pub place-steps : leb (at + 12) (8 * length s) ≡ true → field s at 12 ≤ 2880
-      → one_place q (file_of s) at ≡ steps (count_at s at) q.earliest q.latest any_cost (file_of s) (at + 12)
-  place-steps e h = simp (e, le-leb (field s at 12) 2880 h)
-
-  pub tested-is : (b : Bool) (n : ℕ) → n ≡ field s at 12
-      → one_place q (file_of s) at ≡ steps (count_at s at) q.earliest q.latest any_cost (file_of s) (at + 12)
-      → Tested b (steps n q.earliest q.latest any_cost (file_of s) (at + 12)) (steps_at s (at + 12) n) (at + 12 + 44 * n)
-      → Tested b (one_place q (file_of s) at) (place_at s at) (at + 12 + 44 * n)
-  tested-is b n e p t = subst (λ x. Tested b x (place_at s at) (at + 12 + 44 * n)) (sym p)
-      (subst (λ (m : ℕ). Tested b (steps m q.earliest q.latest any_cost (file_of s) (at + 12)) (steps_at s (at + 12) m) (at + 12 + 44 * n)) e t)

@@ -1,7 +1,7 @@
 -- Document 01, "Files": the sheet that a file stands for, for a network of so many places and a query, or nothing.
-use Rattle.std.specs.Prelude.{ℕ, zero, suc, ◌+◌, List, [], ◌∷◌, leb, ltb, eqb}
+use Rattle.std.specs.Prelude.{ℕ, zero, suc, ◌+◌, ◌&&◌, List, [], ◌∷◌, leb, ltb, eqb}
 use Rattle.answer.specs.declared.Refusal.TheVariants.{SheetFile}
-use Rattle.source.specs.Source.{both, file_of}
+use Rattle.source.specs.Source.{file_of}
 use Rattle.network.specs.Reading.{Found, Reading, ◌>>=◌, ◌>>◌, give, field, check, end}
 use Rattle.plan.specs.Network.{Minute, Cents, Query}
 use Rattle.plan.specs.Sheet.{Step}
@@ -10,7 +10,7 @@ use Rattle.plan.specs.Sheet.{Step}
 abbrev pub step : Minute → Minute → Cents → Reading Step
 step low latest limit = do
   minute ← field 12
-  check (both (leb low minute) (leb minute latest)) SheetFile
+  check (leb low minute && leb minute latest) SheetFile
   price ← field 32
   check (ltb price limit) SheetFile
   give (record { minute = minute; price = price })

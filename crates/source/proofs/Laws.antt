@@ -1,4 +1,5 @@
 -- Fields that reach past the end of a file, how many of four are there, and both halves of a test.
+use mathlib.Core.Bool.{◌&&◌}
 use Prim.Native.Nat.{ℕ, suc, ◌+◌, ◌-◌, ◌*◌, ◌%◌, ◌^◌, ◌≤◌}
 use mathlib.Core.Path.{◌≡◌, refl, ◌∙◌}
 use mathlib.Core.Bool.{Bool, true, false}
@@ -10,13 +11,13 @@ use lib.Dec.{leb, ltb}
 use lib.Pow.{pow_mono}
 use lib.ListN.{length}
 use Rattle.bits.specs.Field.{field}
-use Rattle.source.specs.Source.{Whole, both}
+use Rattle.source.specs.Source.{Whole}
 use Rattle.reader.proofs.Tests.{leb-same}
 use Rattle.bits.proofs.Bytes.{bit_past}
 use Rattle.bits.proofs.Fields.{field-split, field-zero, field_below}
 
 -- both halves of a test
-pub both_true : (a b : Bool) → both a b ≡ true → (a ≡ true) × (b ≡ true)
+pub both_true : (a b : Bool) → ◌&&◌ a b ≡ true → (a ≡ true) × (b ≡ true)
 both_true true b e = (refl, e)
 both_true false b e = (e, cc)
 

@@ -2,10 +2,7 @@
 use Rattle.std.specs.Prelude.{ℕ, suc, ◌+◌, ◌*◌, ◌≡◌, Bool, List, [], ◌∷◌, leb, ltb, eqb, length, get_or}
 use Rattle.bits.specs.Field.{field}
 use Rattle.reader.specs.File.{ends_at}
-pub use Rattle.reader.specs.File.{both}
 use Rattle.source.specs.declared.Fields.{Fields}
-use Rattle.source.specs.declared.Origin.{Origin}
-use Rattle.source.specs.declared.Origin.TheVariants.{File, Numbers}
 
 -- fields one after another; a place is a bit's number in a file and an index in a list
 pub record Source : Type 0 where
@@ -37,11 +34,6 @@ list_of l =
       after = λ width at. at + 1;
       ends = λ at. eqb at (length l);
     }
-
--- the source that a call reads from
-abbrev pub source_of : Origin → List ℕ → List ℕ → Source
-source_of File net list = file_of net
-source_of Numbers net list = list_of list
 
 -- fields of these widths from a place on, counted from k: the first `have` are there; these are the values, and `end` is the place after the last
 abbrev pub Fetched : Source → ℕ → List ℕ → List ℕ → ℕ → ℕ → ℕ → Type 0

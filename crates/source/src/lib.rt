@@ -1,18 +1,13 @@
 // Fields from a file or from a list of numbers, several at once: one load for a leg's four fields, one for a band's two.
 #![tactic(auto)]
 
-ghost use Rattle.std.specs.Prelude.{◌≡◌, [], ◌∷◌, ◌+◌, ◌-◌, ◌*◌, ◌≤◌, length, get_or};
+ghost use Rattle.std.specs.Prelude.{◌≡◌, ℕ, [], ◌∷◌, ◌+◌, ◌-◌, ◌*◌, ◌≤◌, length, get_or};
 ghost use Rattle.bits.specs.Field.{field};
-ghost use Rattle.source.specs.Source.{source_of, file_of, Whole, top_widths, head_widths, band_widths, Fetched, Listed, HeadFields, BandFields};
-
-// Which of the two slices that a call is lent holds the fields.
-#[derive(Clone, Copy)]
-pub enum Origin {
-    File,
-    Numbers,
-}
+ghost use Rattle.source.specs.Source.{Source, file_of, list_of, Whole, top_widths, head_widths, band_widths, Fetched, Listed, HeadFields, BandFields};
+ghost use Rattle.std.proofs.Math.Nat.{le_refl, add-le-add};
 
 // Up to four fields: the first `have` of them are there, the others count as 0. `after` is the place after the last that was asked for.
+// Four numbers and a count, not four Options: they are cut out of one load, and one test settles how many are there.
 #[derive(Clone, Copy)]
 pub struct Fields {
     pub have: usize,
@@ -74,33 +69,18 @@ fn top_in_file(net: &[u8]) -> Fields
     }
 }
 
-// The head of a leg near the end of the file, as far as it is there.
-fn cut_head(net: &[u8], at: usize) -> Fields
-    requires { at ≤ 1000000 }
-    ensures { HeadFields net.now at result }
-{
-    let x = padded(net, at, 28);
-    Fields {
-        have: whole(net, at, 6, 12, 24, 28),
-        a: x / 0x40_0000,
-        b: x / 0x1_0000 % 0x40,
-        c: x / 0x10 % 0x1000,
-        d: x % 0x10,
-        after: at + 28,
-    }
-}
-
-// The head of a leg: from 6, to 6, driving time 12, bands 4.
+// The head of a leg: from 6, to 6, driving time 12, bands 4. One load, but near the end of the file.
 fn head_in_file(net: &[u8], at: usize) -> Fields
     requires { at ≤ 1000000 }
     ensures { HeadFields net.now at result }
 {
-    if net.len() < at / 8 + 8 {
-        return cut_head(net, at);
-    }
-    let x = reader::field(net, at, 28);
+    let (x, have) = if at / 8 + 8 <= net.len() {
+        (reader::field(net, at, 28), 4)
+    } else {
+        (padded(net, at, 28), whole(net, at, 6, 12, 24, 28))
+    };
     Fields {
-        have: 4,
+        have,
         a: x / 0x40_0000,
         b: x / 0x1_0000 % 0x40,
         c: x / 0x10 % 0x1000,
@@ -109,33 +89,18 @@ fn head_in_file(net: &[u8], at: usize) -> Fields
     }
 }
 
-// A band near the end of the file, as far as it is there.
-fn cut_band(net: &[u8], at: usize) -> Fields
-    requires { at ≤ 1000000 }
-    ensures { BandFields net.now at result }
-{
-    let x = padded(net, at, 28);
-    Fields {
-        have: whole(net, at, 12, 28, 28, 28),
-        a: x / 0x1_0000,
-        b: x % 0x1_0000,
-        c: 0,
-        d: 0,
-        after: at + 28,
-    }
-}
-
-// A band: start 12, toll 16.
+// A band: start 12, toll 16. One load, but near the end of the file.
 fn band_in_file(net: &[u8], at: usize) -> Fields
     requires { at ≤ 1000000 }
     ensures { BandFields net.now at result }
 {
-    if net.len() < at / 8 + 8 {
-        return cut_band(net, at);
-    }
-    let x = reader::field(net, at, 28);
+    let (x, have) = if at / 8 + 8 <= net.len() {
+        (reader::field(net, at, 28), 4)
+    } else {
+        (padded(net, at, 28), whole(net, at, 12, 28, 28, 28))
+    };
     Fields {
-        have: 4,
+        have,
         a: x / 0x1_0000,
         b: x % 0x1_0000,
         c: 0,
@@ -148,14 +113,14 @@ fn band_in_file(net: &[u8], at: usize) -> Fields
 fn number(list: &[u32], at: usize) -> u32
     ensures { result ≡ get_or list.now at 0 }
 {
-    if at < list.len() { list[at] } else { 0 }
+    list.get(at).copied().unwrap_or(0)
 }
 
 // How many numbers of a list are left from a place on.
 fn left(list: &[u32], at: usize) -> usize
     ensures { result ≡ length list.now - at }
 {
-    if at < list.len() { list.len() - at } else { 0 }
+    list.len().saturating_sub(at)
 }
 
 // The next four numbers of a list, of which `want` are asked for.
@@ -173,45 +138,82 @@ fn in_list(list: &[u32], at: usize, want: usize) -> Fields
     }
 }
 
-// The head of a network: edition, places, legs.
-pub fn top(origin: Origin, net: &[u8], list: &[u32]) -> Fields
-    ensures { Fetched (source_of origin net.now list.now) 0 top_widths (result.a ∷ result.b ∷ result.c ∷ []) 0 result.have result.after }
-{
-    match origin {
-        Origin::File => top_in_file(net),
-        Origin::Numbers => in_list(list, 0, 3),
+// What the fields of a network are taken from.
+pub trait Origin {
+    // The same fields one by one, as the definitions read them.
+    ghost source: { Self → Source };
+
+    // The head of a network: edition, places, legs.
+    fn top(&self) -> Fields
+        ensures { Fetched (source self.now) 0 top_widths (result.a ∷ result.b ∷ result.c ∷ []) 0 result.have result.after };
+
+    // The head of a leg: from, to, driving time, bands.
+    fn head(&self, at: usize) -> Fields
+        requires { at ≤ 1000000 }
+        ensures { Fetched (source self.now) at head_widths (result.a ∷ result.b ∷ result.c ∷ result.d ∷ []) 0 result.have result.after };
+
+    // A band: start, toll.
+    fn band(&self, at: usize) -> Fields
+        requires { at ≤ 1000000 }
+        ensures { Fetched (source self.now) at band_widths (result.a ∷ result.b ∷ []) 0 result.have result.after };
+
+    // Does the source end here: nothing but zero fill bits in a file, nothing at all in a list?
+    fn ends(&self, at: usize) -> bool
+        requires { at ≤ 1000000 }
+        ensures { result ≡ (source self.now).ends at };
+
+    // A field takes the reading at most its width further on.
+    ghost near: { (s : Self) (width at : ℕ) → 1 ≤ width → (source s).after width at ≤ at + width };
+}
+
+// The bytes of a network file.
+#[derive(Clone, Copy)]
+pub struct File<'a>(pub &'a [u8]);
+
+// A list of numbers, one for each field.
+#[derive(Clone, Copy)]
+pub struct Numbers<'a>(pub &'a [u32]);
+
+impl<'a> Origin for File<'a> {
+    ghost source = { λ f. file_of f.0.now };
+
+    ghost near = { λ f width at some. le_refl (at + width) };
+
+    fn top(&self) -> Fields {
+        top_in_file(self.0)
+    }
+
+    fn head(&self, at: usize) -> Fields {
+        head_in_file(self.0, at)
+    }
+
+    fn band(&self, at: usize) -> Fields {
+        band_in_file(self.0, at)
+    }
+
+    fn ends(&self, at: usize) -> bool {
+        reader::ends(self.0, at)
     }
 }
 
-// The head of a leg: from, to, driving time, bands.
-pub fn head(origin: Origin, net: &[u8], list: &[u32], at: usize) -> Fields
-    requires { at ≤ 1000000 }
-    ensures { Fetched (source_of origin net.now list.now) at head_widths (result.a ∷ result.b ∷ result.c ∷ result.d ∷ []) 0 result.have result.after }
-{
-    match origin {
-        Origin::File => head_in_file(net, at),
-        Origin::Numbers => in_list(list, at, 4),
-    }
-}
+impl<'a> Origin for Numbers<'a> {
+    ghost source = { λ n. list_of n.0.now };
 
-// A band: start, toll.
-pub fn band(origin: Origin, net: &[u8], list: &[u32], at: usize) -> Fields
-    requires { at ≤ 1000000 }
-    ensures { Fetched (source_of origin net.now list.now) at band_widths (result.a ∷ result.b ∷ []) 0 result.have result.after }
-{
-    match origin {
-        Origin::File => band_in_file(net, at),
-        Origin::Numbers => in_list(list, at, 2),
-    }
-}
+    ghost near = { λ n width at some. add-le-add (le_refl at) some };
 
-// Does the source end here: nothing but zero fill bits in a file, nothing at all in a list?
-pub fn ends(origin: Origin, net: &[u8], list: &[u32], at: usize) -> bool
-    requires { at ≤ 1000000 }
-    ensures { result ≡ (source_of origin net.now list.now).ends at }
-{
-    match origin {
-        Origin::File => reader::ends(net, at),
-        Origin::Numbers => at == list.len(),
+    fn top(&self) -> Fields {
+        in_list(self.0, 0, 3)
+    }
+
+    fn head(&self, at: usize) -> Fields {
+        in_list(self.0, at, 4)
+    }
+
+    fn band(&self, at: usize) -> Fields {
+        in_list(self.0, at, 2)
+    }
+
+    fn ends(&self, at: usize) -> bool {
+        at == self.0.len()
     }
 }

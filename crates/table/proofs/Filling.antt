@@ -3,14 +3,12 @@ use Prim.Native.Nat.{ℕ, ◌+◌, ◌*◌, ◌≤◌, ◌<◌}
 use native.Mathlib.Omega.{arith}
 use mathlib.Core.Path.{◌≡◌, ◌∙◌, ap, subst}
 use mathlib.Core.List.{List}
-use lib.ListN.{length, take, drop, replicate, length-set, length-replicate}
-use borrow.Rule.Slice.PartMut.{put_mid}
+use lib.ListN.{length, replicate, length-set, length-replicate}
 use Rattle.plan.specs.Network as Plan
-use Rattle.plan.specs.Table.{no_plan, MinuteTable, cell_at}
+use Rattle.plan.specs.Table.{MinuteTable, cell_at}
 use Rattle.leg.specs.declared.Minute.{Minute}
 use Rattle.network.specs.declared.Size.{Size}
 use Rattle.network.specs.Network.{Network}
-use Rattle.rows.proofs.Wholes.{row-length}
 use Rattle.chart.specs.Net.{net_in, theory, theory_in}
 use Rattle.chart.proofs.Net.{net-is, places-are, few_places, ranges}
 use Rattle.table.specs.declared.Ask.{Ask}
@@ -67,17 +65,6 @@ module _ (s : List ℕ) (size : Size) (start : ℕ) (earliest latest : Minute) (
         (any-end (theory_in s) (query this) start end (cell_at (query this) cells')
         (clean-table (theory_in s) (query this) plan-asked cells' low c.kept c.clean));
   }
-
--- ---- the outset, as the code makes it
-
-pub outset-cells : (cells blanked zeros : List ℕ) (start w k : ℕ) → k ≡ w → start * w + w ≤ length cells → blanked ≡ replicate (length cells) no_plan
-    → zeros ≡ replicate (length (take k (drop (start * w) blanked))) 0
-    → put_mid (start * w) k blanked zeros ≡ put_mid (start * w) w (replicate (length cells) no_plan) (replicate w 0)
-outset-cells cells blanked zeros start w k size fits b z =
-    let long : length blanked ≡ length cells = ap length b ∙ length-replicate {A = ℕ} (length cells) no_plan in
-    let part : length (take k (drop (start * w) blanked)) ≡ w = rw size (row-length blanked w start (omega arith)) in
-    let zero_row : zeros ≡ replicate w 0 = z ∙ ap (λ (n : ℕ). replicate n 0) part in
-    rw (size, zero_row) (ap (λ (xs : List ℕ). put_mid (start * w) w xs (replicate w 0)) b)
 
 pub outset-long : (start w : ℕ) (cells cells' low low' : List ℕ) → Outset start w cells cells' low low' → length low ≡ 64 → length low' ≡ 64
 outset-long start w cells cells' low low' o long =

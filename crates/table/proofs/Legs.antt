@@ -9,19 +9,15 @@ use lib.ListN.{length, get_or, set, length-set}
 use lib.Seq.{set-get_or}
 use Rattle.leg.specs.declared.Leg.{Leg}
 use Rattle.plan.specs.Legs.{no_leg}
-use Rattle.source.specs.Source.{file_of}
-use Rattle.network.specs.declared.Size.{Size}
-use Rattle.network.specs.Network.{edition1, leg}
-use Rattle.network.specs.Answers.{leg_found}
 use Rattle.network.proofs.Sound.{SoundLeg}
 use Rattle.rows.specs.Row.{at}
 use Rattle.rows.specs.Whole.{sum}
-use Rattle.chart.specs.Net.{net_in, theory_in}
-use Rattle.chart.proofs.Net.{ranges, leg-known, leg-sound, leg-is}
-use Rattle.table.specs.declared.Ask.{Ask}
+use Rattle.chart.specs.declared.tariff.Tariff.{Tariff}
+use Rattle.chart.specs.Net.{net_in, theory_in, leg_in}
+use Rattle.table.proofs.Tariffs.{sound-leg, in-range, known-leg}
+use Rattle.table.specs.declared.roads.Roads.{Roads}
 use Rattle.table.specs.Ask.{columns, query}
 use Rattle.table.specs.Ride.{Banded, Rode, RodeOut}
-use Rattle.table.specs.Chains.{Leaving}
 use Rattle.table.specs.Kept.{Visiting, Onward}
 use Rattle.table.proofs.Keeping.{row_fits}
 use Rattle.table.proofs.Riding.{LegOf, visiting-rode}
@@ -48,43 +44,41 @@ onward-more a b c la lb lc x y = record {
     by (inr l) f = inr (omega (arith, y.falls))
     by (inl e) (inr l) = inr (omega (arith, x.falls))
 
-module _ (s : List ℕ) (size : Size) (ask : Ask) (chart row cells low : List ℕ) (p from l : ℕ) (g : Leaving s size ask chart row p l)
-    (v : Visiting (theory_in s) (query ask) cells low row p from (l + 1)) (x : Leg)
-    (decoded : x ≡ (leg_found (leg edition1 size.places (file_of s) (get_or chart l 0))).leg) (w : ℕ) (wide : w ≡ columns ask) where
-  this-leg : x ≡ get_or (net_in s).legs l no_leg
-  this-leg = decoded ∙ leg-is s size g.sound l g.known chart g.charted
+-- a leg that the tariff gives
+pub leg-banded : (t : Tariff) (l : ℕ) → l < t.size.legs → (x : Leg) → x ≡ leg_in t.net.now l → Banded x
+leg-banded t l known x is = banded (net_in t.net.now).places x (sound-leg t l known x is)
 
-  this-sound : SoundLeg (net_in s).places x
-  this-sound = rw this-leg (leg-sound s size g.sound l g.known)
+module _ (g : Roads) (row cells low : List ℕ) (from l : ℕ) (known : l < g.tariff.now.size.legs)
+    (v : Visiting (theory_in g.tariff.now.net.now) (query g.ask) cells low row ((theory_in g.tariff.now.net.now).source l) from (l + 1)) (x : Leg) (decoded : x ≡ leg_in g.tariff.now.net.now l)
+    (w : ℕ) (wide : w ≡ columns g.ask) where
+  this-sound : SoundLeg (net_in g.tariff.now.net.now).places x
+  this-sound = sound-leg g.tariff.now l known x decoded
 
-  pub leg-room : (x.to * w + w ≤ length cells) × (w ≤ length row) × (ask.earliest.0 + w ≤ 2880) × Banded x × (x.to < length low)
+  pub leg-room : (x.to * w + w ≤ length cells) × (x.to < length low)
   leg-room =
       rw wide (
-        row_fits (net_in s).places (columns ask) x.to (length cells) this-sound.to_below v.kept.long,
-        g.room,
-        omega (arith, g.asked.window, g.asked.clock),
-        banded (net_in s).places x this-sound,
+        row_fits (net_in g.tariff.now.net.now).places (columns g.ask) x.to (length cells) this-sound.to_below v.kept.long,
         omega (arith, this-sound.to_below, v.kept.places),
       )
 
-  onward : (cells' : List ℕ) (first : ℕ) → Rode x ask.earliest.0 (columns ask) from cells cells' row first 0 2880
-      → Dec (first < columns ask) → (set low x.to (min (at low x.to) first) ≡ low) ⊎ (sum cells' < sum cells)
+  onward : (cells' : List ℕ) (first : ℕ) → Rode x g.ask.earliest.0 (columns g.ask) from cells cells' row first 0 2880
+      → Dec (first < columns g.ask) → (set low x.to (min (at low x.to) first) ≡ low) ⊎ (sum cells' < sum cells)
   onward cells' first r (yes h) = inr (r.less h)
   onward cells' first r (no h) =
       let same : min (at low x.to) first ≡ at low x.to = omega (arith, v.kept.lows x.to) in
       inl (rw same (set-get_or low x.to 0))
 
-  pub leg-done : (cells' low' : List ℕ) → RodeOut x ask.earliest.0 w from cells cells' row low low'
-      → Visiting (theory_in s) (query ask) cells' low' row p from l × Onward cells cells' low low'
+  pub leg-done : (cells' low' : List ℕ) → RodeOut x g.ask.earliest.0 w from cells cells' row low low'
+      → Visiting (theory_in g.tariff.now.net.now) (query g.ask) cells' low' row ((theory_in g.tariff.now.net.now).source l) from l × Onward cells cells' low low'
   leg-done cells' low' o =
-      let r : Rode x ask.earliest.0 (columns ask) from cells cells' row o.first 0 2880 = rw wide at o.rode in
+      let r : Rode x g.ask.earliest.0 (columns g.ask) from cells cells' row o.first 0 2880 = rw wide at o.rode in
       rw o.noted (
-        visiting-rode (theory_in s) (query ask) (ranges s size g.sound) cells cells' low row p from l o.first x v
-            (leg-known s size g.sound l g.known) g.leaves (leg-of s l x this-leg)
+        visiting-rode (theory_in g.tariff.now.net.now) (query g.ask) (in-range g.tariff.now) cells cells' low row _ from l o.first x v
+            (known-leg g.tariff.now l known) refl (leg-of g.tariff.now.net.now l x decoded)
             (omega (arith, g.asked.window, g.asked.clock)) r,
         record {
           long = length-set low x.to (min (at low x.to) o.first);
           falls = r.falls;
-          noted = onward cells' o.first r (dec_lt o.first (columns ask));
+          noted = onward cells' o.first r (dec_lt o.first (columns g.ask));
         },
       )

@@ -1,3 +1,4 @@
+pub mod Tariffs
 pub mod Rides
 pub mod Keeping
 pub mod Riding

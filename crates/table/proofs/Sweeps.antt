@@ -1,7 +1,6 @@
 -- The sweep: which place is next, and why it ends.
 use Prim.Native.Nat.{ℕ, zero, suc, ◌+◌, ◌*◌, ◌-◌, ◌≤◌, ◌<◌}
 use native.Mathlib.Omega.{arith}
-use native.Mathlib.Decide.{ℕ_discrete}
 use mathlib.Core.Path.{◌≡◌, ap}
 use mathlib.Core.Logic.{◌⊎◌, inl, inr}
 use mathlib.Core.List.{List, [], ◌∷◌}
@@ -9,13 +8,6 @@ use lib.ListN.{length, set, length-set}
 use Rattle.rows.specs.Row.{at}
 use Rattle.rows.specs.Whole.{sum}
 use Rattle.table.specs.Kept.{Onward}
-
-pub new-more : (low : List ℕ) (from p w : ℕ) → ((o : ℕ) → from ≤ o → o < p → w ≤ at low o) → w ≤ at low p → (o : ℕ) → from ≤ o → o < p + 1 → w ≤ at low o
-new-more low from p w h here o f u = by (ℕ_discrete o p)
-  where
-    by : Dec (o ≡ p) → w ≤ at low o
-    by (yes e) = rw e here
-    by (no n) = h o f (omega arith)
 
 -- ---- the measure
 

@@ -1,15 +1,6 @@
--- The legs of each place, as a chain that falls in leg number: a number is that of a leg and one more, or 0 for none.
-use Rattle.std.specs.Prelude.{ℕ, ◌+◌, ◌≤◌, ◌<◌, ◌≡◌, List, length}
+-- The legs of each place, as a chain that falls in leg number.
+use Rattle.std.specs.Prelude.{ℕ, ◌+◌, ◌≤◌, ◌<◌, ◌≡◌, List, get_or, Option, Some, None}
 use Rattle.plan.specs.Network.{Network}
-use Rattle.network.specs.Network.{of_file}
-use Rattle.network.specs.declared.Size.{Size}
-use Rattle.network.specs.declared.NetworkFound.{NetworkFound}
-use Rattle.network.specs.Answers.{network_found}
-use Rattle.chart.specs.Chart.{Chart}
-use Rattle.chart.specs.Net.{theory_in}
-use Rattle.rows.specs.Row.{at}
-use Rattle.table.specs.declared.Ask.{Ask}
-use Rattle.table.specs.Ask.{Askable, columns}
 
 -- of the legs below `bound`, `top` is one more than the highest that leaves p, or 0
 pub record Next (N : Network) (p bound top : ℕ) : Type 0 where
@@ -17,23 +8,16 @@ pub record Next (N : Network) (p bound top : ℕ) : Type 0 where
   pub all : (k : ℕ) → k < bound → N.source k ≡ p → k < top
   pub leaves : (k : ℕ) → top ≡ k + 1 → N.source k ≡ p
 
+-- one more than the leg's number, and 0 for none
+abbrev pub above : Option ℕ → ℕ
+above None = 0
+above (Some l) = l + 1
+
+-- what a chain holds at a number, in the numbers of `Next`
+abbrev pub link : List (Option ℕ) → ℕ → ℕ
+link chain i = above (get_or chain i None)
+
 -- the legs below n, chained
-pub record Chained (N : Network) (n : ℕ) (last before : List ℕ) : Type 0 where
-  pub lasts : (p : ℕ) → p < N.places → Next N p n (at last p)
-  pub befores : (l : ℕ) → l < n → Next N (N.source l) l (at before l)
-
--- what holds throughout: the file is sound and charted, its legs are chained, and the query may be asked of it
-pub record Ready (net : List ℕ) (size : Size) (ask : Ask) (chart last before : List ℕ) : Type 0 where
-  pub sound : network_found (of_file net) ≡ NetworkFound.Sound size
-  pub asked : Askable ask size
-  pub charted : Chart net chart
-  pub chained : Chained (theory_in net) size.legs last before
-
--- leg l is one of p's, and p's row has room
-pub record Leaving (net : List ℕ) (size : Size) (ask : Ask) (chart row : List ℕ) (p l : ℕ) : Type 0 where
-  pub sound : network_found (of_file net) ≡ NetworkFound.Sound size
-  pub asked : Askable ask size
-  pub charted : Chart net chart
-  pub known : l < size.legs
-  pub leaves : (theory_in net).source l ≡ p
-  pub room : columns ask ≤ length row
+pub record Chained (N : Network) (n : ℕ) (last before : List (Option ℕ)) : Type 0 where
+  pub lasts : (p : ℕ) → p < N.places → Next N p n (link last p)
+  pub befores : (l : ℕ) → l < n → Next N (N.source l) l (link before l)

@@ -5,7 +5,7 @@ use Rattle.plan.specs.Table.{MinuteTable, cell_at}
 use Rattle.network.specs.Reading.{found}
 use Rattle.network.specs.Network.{Network, of_file}
 use Rattle.network.specs.Answers.{network_found}
-use Rattle.network.specs.declared.NetworkFound.{NetworkFound}
+use Rattle.std.specs.Prelude.{Ok}
 use Rattle.network.specs.declared.Size.{Size}
 use Rattle.chart.specs.Net.{theory}
 
@@ -15,7 +15,7 @@ asked start end earliest latest = record { start = start; end = end; earliest = 
 
 -- a sound file of this size, a start that is one of its places, a window within the clock, and a cell for each place and minute
 pub record Fillable (net : List ℕ) (size : Size) (start earliest latest : ℕ) (cells : List ℕ) : Type 0 where
-  pub sound : network_found (of_file net) ≡ NetworkFound.Sound size
+  pub sound : network_found (of_file net) ≡ Ok size
   pub home : start < size.places
   pub window : earliest ≤ latest
   pub clock : latest ≤ 2879

@@ -1,6 +1,6 @@
 -- What the sweep keeps, in columns: cells are attained, and the rules hold of each place up to the first column that changed since its
 -- last visit.
-use Rattle.std.specs.Prelude.{ℕ, ◌+◌, ◌*◌, ◌≤◌, ◌<◌, ◌≡◌, ◌⊎◌, ◌≢◌, List, length, set, replicate}
+use Rattle.std.specs.Prelude.{ℕ, ◌+◌, ◌*◌, ◌≤◌, ◌<◌, ◌≡◌, ◌⊎◌, ◌≢◌, List, length, set, replicate, Option, Some, None}
 use borrow.Rule.Slice.PartMut.{put_mid}
 use Rattle.plan.specs.Network.{Network, Query}
 use Rattle.plan.specs.Plan.{Ride, total, Stands}
@@ -54,17 +54,15 @@ pub record Visited (N : Network) (q : Query) (cells cells' low low' : List ℕ) 
   pub kept : Kept N q cells' low' Never
   pub onward : Onward cells cells' low low'
 
--- the first of the places from..until whose first changed column lies below w
-pub record FirstNew (low : List ℕ) (from until w first : ℕ) : Type 0 where
-  pub within : (from ≤ first) × (first ≤ until)
-  pub passed : (p : ℕ) → from ≤ p → p < first → w ≤ at low p
-  pub new : first < until → at low first < w
+-- the first of the places from..until whose first changed column lies below w, or that there is none
+abbrev pub FirstNew : List ℕ → ℕ → ℕ → ℕ → Option ℕ → Type 0
+FirstNew low from until w None = (p : ℕ) → from ≤ p → p < until → w ≤ at low p
+FirstNew low from until w (Some first) = (from ≤ first) × (first < until) × (at low first < w) × ((p : ℕ) → from ≤ p → p < first → w ≤ at low p)
 
--- a place whose first changed column lies below w, or none
-pub record NextNew (low : List ℕ) (places w next : ℕ) : Type 0 where
-  pub within : next ≤ places
-  pub none : places ≤ next → (p : ℕ) → p < places → w ≤ at low p
-  pub new : next < places → at low next < w
+-- a place whose first changed column lies below w, or that there is none
+abbrev pub NextNew : List ℕ → ℕ → ℕ → Option ℕ → Type 0
+NextNew low places w None = (p : ℕ) → p < places → w ≤ at low p
+NextNew low places w (Some next) = (next < places) × (at low next < w)
 
 -- the table before the first visit: 0 in the start's row and `no_plan` elsewhere, and only the start has something to pass on
 pub record Outset (start w : ℕ) (cells cells' low low' : List ℕ) : Type 0 where

@@ -6,7 +6,7 @@ use mathlib.Core.List.{List, ◌++◌}
 use lib.ListN.{length, take, drop}
 use lib.Seq.{length-take-le}
 use Rattle.answer.specs.declared.Refusal.{Refusal}
-use Rattle.network.specs.declared.NetworkFound.{NetworkFound}
+use Rattle.std.specs.Prelude.{Ok, Err}
 use Rattle.network.specs.declared.Size.{Size}
 use Rattle.network.specs.Network.{of_file}
 use Rattle.network.specs.Answers.{network_found}
@@ -16,8 +16,7 @@ use Rattle.plan_file.specs.declared.Query.{Query as Asked}
 use Rattle.plan_file.specs.PlanFile.{query_of}
 use Rattle.chart.specs.Net.{net_in, theory_in}
 use Rattle.chart.proofs.Net.{in-file, places-are}
-use Rattle.tabled.specs.declared.Judgement.{Judgement}
-use Rattle.tabled.specs.declared.Judgement.TheVariants.{Serve, Refuse}
+use Rattle.std.specs.Prelude.{Result}
 use Rattle.tabled.specs.Judge.{judgement, with_network, judged}
 use Rattle.tabled.specs.Comes.{Filled}
 use Rattle.tabled.specs.Tabled.{Unfilled, FilledFor}
@@ -26,20 +25,20 @@ use Rattle.tabled.proofs.Tables.{filled-whole}
 
 module _ (net : List ℕ) (a : Asked) (table : List ℕ) where
   -- 1 to 5
-  pub network-refused : (why : Refusal) → network_found (of_file net) ≡ NetworkFound.Refused why → Unfilled net a table table why
+  pub network-refused : (why : Refusal) → network_found (of_file net) ≡ Err why → Unfilled net a table table why
   network-refused why e = record { judged_is = judged-refused (of_file net) (query_of a) (length table) why e; table_is = refl }
 
-  module _ (size : Size) (ok : network_found (of_file net) ≡ NetworkFound.Sound size) where
-    by-judgement : (j : Judgement) → judgement size.places (query_of a) (length table) ≡ j
+  module _ (size : Size) (ok : network_found (of_file net) ≡ Ok size) where
+    by-judgement : (j : Result Unit Refusal) → judgement size.places (query_of a) (length table) ≡ j
         → judged (of_file net) (query_of a) (length table) ≡ with_network j (theory_in net)
-    by-judgement j e = judged_is net (query_of a) (length table) size ok ∙ ap (λ (j : Judgement). with_network j (theory_in net)) e
+    by-judgement j e = judged_is net (query_of a) (length table) size ok ∙ ap (λ (j : Result Unit Refusal). with_network j (theory_in net)) e
 
     -- 6 to 8
-    pub query-refused : (why : Refusal) → judgement size.places (query_of a) (length table) ≡ Refuse why → Unfilled net a table table why
-    query-refused why e = record { judged_is = by-judgement (Refuse why) e; table_is = refl }
+    pub query-refused : (why : Refusal) → judgement size.places (query_of a) (length table) ≡ Err why → Unfilled net a table table why
+    query-refused why e = record { judged_is = by-judgement (Err why) e; table_is = refl }
 
     -- the tests are passed, and the first n cells are lent on
-    module _ (e : judgement size.places (query_of a) (length table) ≡ Serve) (n : ℕ) (is : n ≡ size.places * width (query_of a)) where
+    module _ (e : judgement size.places (query_of a) (length table) ≡ Ok tt) (n : ℕ) (is : n ≡ size.places * width (query_of a)) where
       tests : Passed size.places (query_of a) (length table)
       tests = passed size.places (query_of a) (length table) e
 
@@ -69,7 +68,7 @@ module _ (net : List ℕ) (a : Asked) (table : List ℕ) where
         pub filled-for : FilledFor net a table (cells ++ drop n table) size
         filled-for =
             record {
-              judged_is = by-judgement Serve e;
+              judged_is = by-judgement (Ok tt) e;
               tabled =
                   record {
                     servable = record { sound = ok; asked = askable net size ok (query_of a) (length table) tests; last = tests.latest };

@@ -8,7 +8,7 @@ use mathlib.Core.Logic.{⊎_elim}
 use mathlib.Core.List.{List}
 use lib.ListN.{length, get_or}
 use lib.Seq.{ext_get_or}
-use Rattle.answer.specs.declared.PlanAnswer.{PlanAnswer}
+use Rattle.answer.specs.Plans.{PlanAnswer}
 use Rattle.answer.specs.declared.Refusal.{Refusal}
 use Rattle.network.specs.Network.{of_file}
 use Rattle.plan.specs.Network.{Minute, Network, Query, Askable, Within}

@@ -3,7 +3,8 @@ use Prim.Native.Nat.{ℕ}
 use mathlib.Core.Path.{◌≡◌, refl, sym, subst}
 use mathlib.Core.List.{List}
 use lib.ListN.{length}
-use Rattle.answer.specs.declared.PlanAnswer.{PlanAnswer}
+use Rattle.answer.specs.Plans.{PlanAnswer}
+use Rattle.std.specs.Prelude.{Ok, Err}
 use Rattle.answer.specs.declared.Refusal.{Refusal}
 use Rattle.network.specs.declared.Size.{Size}
 use Rattle.network.specs.Network.{of_file}
@@ -14,7 +15,7 @@ use Rattle.plan_file.specs.PlanFile.{query_of}
 use Rattle.walk.specs.Cells.{InTable}
 use Rattle.walk.proofs.Nets.{in_table}
 use Rattle.chart.specs.Net.{theory_in}
-use Rattle.tabled.specs.declared.Tabling.{Tabling}
+use Rattle.std.specs.Prelude.{Result}
 use Rattle.tabled.specs.Judge.{Judged, judged}
 use Rattle.tabled.specs.Comes.{Comes}
 use Rattle.tabled.specs.Tabled.{Tabled, FilledFor, Fills}
@@ -27,8 +28,8 @@ module _ (s : List ℕ) (size : Size) (a : Asked) (cells : List ℕ) (k : Tabled
   pub end-in : InTable cells (query_of a) a.end a.latest.0
   end-in = cell_in a.end a.latest.0 (at-end (theory_in s) (query_of a) k.servable.asked)
 
-module _ (net : List ℕ) (a : Asked) (table table' : List ℕ) (r : Tabling) (h : Fills net a table table' r) where
-  module _ (size : Size) (is : r ≡ Tabling.Filled size) where
+module _ (net : List ℕ) (a : Asked) (table table' : List ℕ) (r : Result Size Refusal) (h : Fills net a table table' r) where
+  module _ (size : Size) (is : r ≡ Ok size) where
     filled : FilledFor net a table table' size
     filled = subst (Fills net a table table') is h
 
@@ -45,9 +46,9 @@ module _ (net : List ℕ) (a : Asked) (table table' : List ℕ) (r : Tabling) (h
         (record { answered = said; filled = filled.filled })
 
   -- 1 to 8
-  pub untouched : (why : Refusal) → r ≡ Tabling.Refused why → (Answered : Network → Query → List ℕ → List ℕ → PlanAnswer → Type 0) (out : List ℕ)
-      → Comes Answered (judged (of_file net) (query_of a) (length table)) (query_of a) table table' out out (PlanAnswer.Refused why)
+  pub untouched : (why : Refusal) → r ≡ Err why → (Answered : Network → Query → List ℕ → List ℕ → PlanAnswer → Type 0) (out : List ℕ)
+      → Comes Answered (judged (of_file net) (query_of a) (length table)) (query_of a) table table' out out (Err why)
   untouched why is Answered out =
       let f = subst (Fills net a table table') is h in
-      subst (λ (j : Judged). Comes Answered j (query_of a) table table' out out (PlanAnswer.Refused why)) (sym f.judged_is)
+      subst (λ (j : Judged). Comes Answered j (query_of a) table table' out out (Err why)) (sym f.judged_is)
       (record { answer_is = refl; table_is = f.table_is; output_is = refl })

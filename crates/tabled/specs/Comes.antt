@@ -1,7 +1,8 @@
 -- What a call that goes by the table comes to: number, length, output and table on every input, in the definitions' own words. What it
 -- answers once the table is filled is a parameter: the plan call and the sheet call differ in that alone.
 use Rattle.std.specs.Prelude.{ℕ, ◌*◌, ◌≤◌, ◌≡◌, List, length, get_or}
-use Rattle.answer.specs.declared.PlanAnswer.{PlanAnswer}
+use Rattle.answer.specs.Plans.{PlanAnswer}
+use Rattle.std.specs.Prelude.{Err}
 use Rattle.plan.specs.Network.{Network, Query}
 use Rattle.plan.specs.Table.{width, cell_at, MinuteTable}
 use Rattle.tabled.specs.Judge.{Judged, refuse, serve}
@@ -30,5 +31,5 @@ pub record Served (Answered : Network → Query → List ℕ → List ℕ → Pl
 
 -- a refusal that touches nothing, or the call's own answer and a filled table
 abbrev pub Comes : (Network → Query → List ℕ → List ℕ → PlanAnswer → Type 0) → Judged → Query → List ℕ → List ℕ → List ℕ → List ℕ → PlanAnswer → Type 0
-Comes Answered (refuse why) q table table' out out' answer = Untouched (PlanAnswer.Refused why) table table' out out' answer
+Comes Answered (refuse why) q table table' out out' answer = Untouched (Err why) table table' out out' answer
 Comes Answered (serve N) q table table' out out' answer = Served Answered N q table table' out out' answer

@@ -1,5 +1,5 @@
 -- Document 01: what is tested before anything is planned, in its order: the network, then 6, 7 and 8.
-use Rattle.std.specs.Prelude.{ℕ, ◌*◌, leb, ltb}
+use Rattle.std.specs.Prelude.{ℕ, Result, Ok, Err, ◌*◌, leb, ltb}
 use Rattle.answer.specs.declared.Refusal.{Refusal}
 use Rattle.answer.specs.declared.Refusal.TheVariants.{Query as NoSuchQuery, Window, Cells}
 use Rattle.leg.specs.Ranges.{last_minute}
@@ -8,23 +8,21 @@ use Rattle.network.specs.Network.{Network as FileNetwork}
 use Rattle.plan.specs.Network.{Network, Query}
 use Rattle.plan.specs.Table.{width}
 use Rattle.chart.specs.Net.{theory}
-use Rattle.tabled.specs.declared.Judgement.{Judgement}
-use Rattle.tabled.specs.declared.Judgement.TheVariants.{Serve, Refuse}
 
 -- 6: start or end not below places, or a query time over 2,879; 7: earliest after latest; 8: fewer than places × W cells
-abbrev pub judgement : ℕ → Query → ℕ → Judgement
+abbrev pub judgement : ℕ → Query → ℕ → Result Unit Refusal
 judgement places q cells =
     pick (ltb q.start places)
     (pick (ltb q.end places)
     (pick (leb q.earliest last_minute)
     (pick (leb q.latest last_minute)
     (pick (leb q.earliest q.latest)
-    (pick (leb (places * width q) cells) Serve (Refuse Cells))
-    (Refuse Window))
-    (Refuse NoSuchQuery))
-    (Refuse NoSuchQuery))
-    (Refuse NoSuchQuery))
-    (Refuse NoSuchQuery)
+    (pick (leb (places * width q) cells) (Ok tt) (Err Cells))
+    (Err Window))
+    (Err NoSuchQuery))
+    (Err NoSuchQuery))
+    (Err NoSuchQuery))
+    (Err NoSuchQuery)
 
 -- what the call comes to: a refusal that touches nothing, or an answer about this network
 pub data Judged : Type 0 where
@@ -32,9 +30,9 @@ pub data Judged : Type 0 where
   serve : Network → Judged
 
 -- served with this network, or refused
-abbrev pub with_network : Judgement → Network → Judged
-with_network Serve N = serve N
-with_network (Refuse why) N = refuse why
+abbrev pub with_network : Result Unit Refusal → Network → Judged
+with_network (Ok passed) N = serve N
+with_network (Err why) N = refuse why
 
 -- the network first, then 6, 7 and 8
 abbrev pub judged : Found FileNetwork → Query → ℕ → Judged

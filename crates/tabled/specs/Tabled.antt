@@ -1,7 +1,7 @@
 -- What is known once the table is filled, and what filling it promises.
-use Rattle.std.specs.Prelude.{ℕ, ◌*◌, ◌≤◌, ◌≡◌, List, length}
+use Rattle.std.specs.Prelude.{ℕ, Result, Ok, Err, ◌*◌, ◌≤◌, ◌≡◌, List, length}
 use Rattle.answer.specs.declared.Refusal.{Refusal}
-use Rattle.network.specs.declared.NetworkFound.{NetworkFound}
+use Rattle.std.specs.Prelude.{Ok, Err}
 use Rattle.network.specs.declared.Size.{Size}
 use Rattle.network.specs.Network.{of_file}
 use Rattle.network.specs.Answers.{network_found}
@@ -10,14 +10,12 @@ use Rattle.plan.specs.Table.{width, cell_at, MinuteTable}
 use Rattle.plan_file.specs.declared.Query.{Query as Asked}
 use Rattle.plan_file.specs.PlanFile.{query_of}
 use Rattle.chart.specs.Net.{theory_in}
-use Rattle.tabled.specs.declared.Tabling.{Tabling}
-use Rattle.tabled.specs.declared.Tabling.TheVariants as tabling
 use Rattle.tabled.specs.Judge.{refuse, serve, judged}
 use Rattle.tabled.specs.Comes.{Filled}
 
 -- a sound network and a query that can be asked of it
 pub record Servable (s : List ℕ) (size : Size) (a : Asked) : Type 0 where
-  pub sound : network_found (of_file s) ≡ NetworkFound.Sound size
+  pub sound : network_found (of_file s) ≡ Ok size
   pub asked : Askable (theory_in s) (query_of a)
   pub last : a.latest.0 ≤ 2879
 
@@ -39,6 +37,6 @@ pub record FilledFor (net : List ℕ) (a : Asked) (table table' : List ℕ) (siz
   pub filled : Filled (theory_in net) (query_of a) table table'
 
 -- one or the other
-abbrev pub Fills : List ℕ → Asked → List ℕ → List ℕ → Tabling → Type 0
-Fills net a table table' (tabling.Refused why) = Unfilled net a table table' why
-Fills net a table table' (tabling.Filled size) = FilledFor net a table table' size
+abbrev pub Fills : List ℕ → Asked → List ℕ → List ℕ → Result Size Refusal → Type 0
+Fills net a table table' (Err why) = Unfilled net a table table' why
+Fills net a table table' (Ok size) = FilledFor net a table table' size

@@ -8,23 +8,9 @@ ghost use Rattle.tabled.specs.Tabled.{Fills};
 
 use answer::Refusal;
 use leg::Minute;
-use network::{NetworkFound, Size};
+use network::Size;
 use plan_file::Query;
-use source::Origin;
-
-// What 6, 7 and 8 come to.
-#[derive(Clone, Copy)]
-pub enum Judgement {
-    Serve,
-    Refuse(Refusal),
-}
-
-// What the tests and the table come to.
-#[derive(Clone, Copy)]
-pub enum Tabling {
-    Refused(Refusal),
-    Filled(Size),
-}
+use source::File;
 
 // How many cells a table has.
 fn area(places: u32, width: u32) -> usize
@@ -35,61 +21,45 @@ fn area(places: u32, width: u32) -> usize
 }
 
 // 6, 7 and 8.
-fn judge(size: Size, query: Query, room: usize) -> Judgement
+fn judge(size: Size, query: Query, room: usize) -> Result<(), Refusal>
     requires { size.places ≤ 64 }
     ensures { result ≡ judgement size.places (query_of query) room }
 {
-    let earliest = query.earliest;
-    let latest = query.latest;
     if size.places <= query.start {
-        return Judgement::Refuse(Refusal::Query);
+        return Err(Refusal::Query);
     }
     if size.places <= query.end {
-        return Judgement::Refuse(Refusal::Query);
+        return Err(Refusal::Query);
     }
-    if Minute::LAST < earliest.0 {
-        return Judgement::Refuse(Refusal::Query);
+    if Minute::LAST < query.earliest.0 {
+        return Err(Refusal::Query);
     }
-    if Minute::LAST < latest.0 {
-        return Judgement::Refuse(Refusal::Query);
+    if Minute::LAST < query.latest.0 {
+        return Err(Refusal::Query);
     }
-    if latest.0 < earliest.0 {
-        return Judgement::Refuse(Refusal::Window);
+    if query.latest.0 < query.earliest.0 {
+        return Err(Refusal::Window);
     }
-    let width = latest.0 - earliest.0 + 1;
-    if room < area(size.places, width) {
-        return Judgement::Refuse(Refusal::Cells);
+    if room < area(size.places, query.latest.0 - query.earliest.0 + 1) {
+        return Err(Refusal::Cells);
     }
-    Judgement::Serve
+    Ok(())
 }
 
 // Refused with 1 to 8 and the table as it was; or its first places × W cells are filled for the network, which is of this size.
-pub fn fill_for(net: &[u8], query: Query, table: &mut [u32]) -> Tabling
+pub fn fill_for(net: &[u8], query: Query, table: &mut [u32]) -> Result<Size, Refusal>
     ensures { Fills net.now query table.old table.new result }
 {
-    let no_list = [0u32; 1];
-    let found = network::network_from(Origin::File, net, &no_list);
-    match found {
-        NetworkFound::Refused(why) => Tabling::Refused(why),
-        NetworkFound::Sound(size) => {
-            let judgement = judge(size, query, table.len());
-            match judgement {
-                Judgement::Refuse(why) => Tabling::Refused(why),
-                Judgement::Serve => {
-                    let earliest = query.earliest;
-                    let latest = query.latest;
-                    let cells = area(size.places, latest.0 - earliest.0 + 1);
-                    table::fill(
-                        net,
-                        size,
-                        query.start,
-                        earliest,
-                        latest,
-                        &mut table[..cells],
-                    );
-                    Tabling::Filled(size)
-                }
-            }
-        }
-    }
+    let size = network::network_from(&File(net))?;
+    judge(size, query, table.len())?;
+    let cells = area(size.places, query.latest.0 - query.earliest.0 + 1);
+    table::fill(
+        net,
+        size,
+        query.start,
+        query.earliest,
+        query.latest,
+        &mut table[..cells],
+    );
+    Ok(size)
 }

@@ -1,9 +1,12 @@
 -- What comes back over the C names: the number and the length of an answer that keeps the call's promise.
 use Rattle.std.specs.Prelude.{ℕ, ◌≡◌}
-use Rattle.answer.specs.declared.Answer.{Answer}
+use Rattle.answer.specs.Numbers.{Answer}
+use Rattle.std.specs.Prelude.{Ok, Err}
 use Rattle.answer.specs.Numbers.{answer_number, answer_length}
-use Rattle.answer.specs.declared.PlanAnswer.{PlanAnswer}
+use Rattle.answer.specs.Plans.{PlanAnswer, plan_filed, none_filed}
+use Rattle.std.specs.Prelude.{Ok, Err}
 use Rattle.answer.specs.Plans.{plan_number, plan_length}
+use Rattle.gate.specs.Gate.{GateAnswer}
 use Rattle.terminal.specs.declared.Reply.{Reply}
 
 -- number and length of an answer that keeps the promise
@@ -21,7 +24,7 @@ pub record PlanReplies (Promise : PlanAnswer → Type 0) (reply : Reply) : Type 
   pub length_is : reply.length ≡ plan_length answer
 
 -- the gate gives a number alone
-pub record Says (Promise : Answer → Type 0) (number : ℕ) : Type 0 where
-  pub answer : Answer
+pub record Says (Promise : GateAnswer → Type 0) (number : ℕ) : Type 0 where
+  pub answer : GateAnswer
   pub promise : Promise answer
   pub number_is : number ≡ answer_number answer

@@ -2,6 +2,8 @@
 #![tactic(auto)]
 
 ghost use Rattle.std.specs.Prelude.{◌≡◌};
+ghost use Rattle.answer.specs.Numbers.{answer_number, answer_length};
+ghost use Rattle.answer.specs.Plans.{plan_number, plan_length};
 ghost use Rattle.read_call.specs.Read.{Reads};
 ghost use Rattle.write_call.specs.Write.{Writes};
 ghost use Rattle.tabled.specs.Comes.{asking};
@@ -10,35 +12,50 @@ ghost use Rattle.sheet_call.specs.Sheet.{Sheets};
 ghost use Rattle.gate.specs.Gate.{GateSays};
 ghost use Rattle.terminal.specs.Reply.{Replies, PlanReplies, Says};
 
+use answer::{Answer, PlanAnswer};
+
 // What comes back: the paper's number, and the length of what was written.
 #[repr(C)]
-#[derive(Clone, Copy)]
+#[derive(Clone, Copy, PartialEq, Eq)]
 pub struct Reply {
     pub number: u32,
     pub length: u32,
 }
 
-// A number and a length, each in its place.
-fn reply_of(number: u32, length: u32) -> Reply
-    ensures { (result.number ≡ number) × (result.length ≡ length) }
-{
-    Reply { number, length }
+impl From<Answer> for Reply {
+    ghost from_gives = { λ answer reply. (reply.number ≡ answer_number answer) × (reply.length ≡ answer_length answer) };
+
+    fn from(answer: Answer) -> Reply {
+        Reply {
+            number: answer::number(answer),
+            length: answer::length(answer),
+        }
+    }
+}
+
+impl From<PlanAnswer> for Reply {
+    ghost from_gives = { λ answer reply. (reply.number ≡ plan_number answer) × (reply.length ≡ plan_length answer) };
+
+    fn from(answer: PlanAnswer) -> Reply {
+        Reply {
+            number: answer::plan_number(answer),
+            length: answer::plan_length(answer),
+        }
+    }
 }
 
 // A network file's fields as a list of numbers.
 pub fn haul_read(net: &[u8], list: &mut [u32]) -> Reply
     ensures { Replies (Reads net.now list.old list.new) result }
 {
-    let answer = read_call::read(net, list);
-    reply_of(answer.number(), answer.length())
+    Reply::from(read_call::read(net, list))
 }
 
 // A list of numbers as a network file.
 pub fn haul_write(list: &[u32], out: &mut [u8]) -> Reply
     ensures { Replies (Writes list.now out.old out.new) result }
 {
-    let answer = write_call::write(list, out);
-    reply_of(answer.number(), answer.length())
+    Reply::from(write_call::write(list, out))
 }
 
 // The named plan of a query, as a plan file, with the minute table.
@@ -53,8 +70,7 @@ pub fn haul_plan(
 ) -> Reply
     ensures { PlanReplies (Plans net.now (asking start end earliest latest) table.old table.new out.old out.new) result }
 {
-    let answer = plan_call::plan(net, start, end, earliest, latest, table, out);
-    reply_of(answer.number(), answer.length())
+    Reply::from(plan_call::plan(net, start, end, earliest, latest, table, out))
 }
 
 // The bound sheet of a query, with the same table.
@@ -69,14 +85,12 @@ pub fn haul_sheet(
 ) -> Reply
     ensures { PlanReplies (Sheets net.now (asking start end earliest latest) table.old table.new out.old out.new) result }
 {
-    let answer = sheet_call::sheet(net, start, end, earliest, latest, table, out);
-    reply_of(answer.number(), answer.length())
+    Reply::from(sheet_call::sheet(net, start, end, earliest, latest, table, out))
 }
 
 // A plan and a bound sheet judged against a network, whoever wrote them.
 pub fn haul_gate(net: &[u8], plan: &[u8], sheet: &[u8]) -> u32
     ensures { Says (GateSays net.now plan.now sheet.now) result }
 {
-    let answer = gate::gate(net, plan, sheet);
-    answer.number()
+    answer::number(gate::gate(net, plan, sheet))
 }

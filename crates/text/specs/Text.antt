@@ -1,5 +1,6 @@
 -- Text as a list of bytes.
 use Rattle.std.specs.Prelude.{ℕ, zero, suc, ◌+◌, ◌/◌, ◌%◌, ◌≤◌, ◌≡◌, cond, List, [], ◌∷◌, ◌++◌, ltb, length, take}
+use Rattle.text.specs.declared.Page.{Page}
 
 -- n in decimal without zeros in front, the last k digits at most: a digit d is the byte 48 + d
 abbrev pub decimal : ℕ → ℕ → List ℕ
@@ -24,3 +25,12 @@ pub record Adds (before after : List ℕ) (at to : ℕ) (text : List ℕ) : Type
   pub to_is : to ≡ at + length text
   pub fits : to ≤ length after
   pub reads : take to after ≡ take at before ++ text
+
+-- a page has room for n more bytes
+abbrev pub HasRoom : Page → ℕ → Type 0
+HasRoom page n = page.at + n ≤ length page.out.now
+
+-- text is added to a page, whose bytes stay those that it was lent
+pub record Writes (before after : Page) (text : List ℕ) : Type 0 where
+  pub adds : Adds before.out.now after.out.now before.at after.at text
+  pub same : after.out.ghost_name ≡ before.out.ghost_name

@@ -1,54 +1,53 @@
 // Text in lent bytes, one piece after another: words, and numbers in decimal.
 #![tactic(auto)]
 
-ghost use Rattle.std.specs.Prelude.{◌+◌, ◌≤◌, ◌++◌, length};
-ghost use Rattle.text.specs.Text.{Adds, decimal, decimal_of, item, line};
+ghost use Rattle.std.specs.Prelude.{◌+◌, length};
+ghost use Rattle.text.specs.Text.{HasRoom, Writes, decimal_of, item, line};
 
-// A word.
-pub fn word(out: &mut [u8], at: usize, bytes: &[u8]) -> usize
-    requires { at + length bytes.now ≤ length out.old }
-    ensures { Adds out.old out.new at result bytes.now }
-{
-    let mut k = 0;
-    while k < bytes.len() {
-        out[at + k] = bytes[k];
-        k += 1;
-    }
-    at + bytes.len()
+use itoa::Buffer;
+
+// Lent bytes, and the place up to which they are written.
+#[derive(Drop)]
+pub struct Page<'a> {
+    pub out: &'a mut [u8],
+    pub at: usize,
 }
 
-// A number's digits, the last `most` of them at most.
-fn digits(out: &mut [u8], at: usize, value: u32, most: usize) -> usize
-    requires { at + most ≤ length out.old }
-    ensures { Adds out.old out.new at result (decimal most value) }
-{
-    if most == 0 {
-        return at;
+impl<'a> Page<'a> {
+    // A word.
+    pub fn word(&mut self, bytes: &[u8])
+        requires { HasRoom self.old (length bytes.now) }
+        ensures { Writes self.old self.new bytes.now }
+    {
+        let to = self.at + bytes.len();
+        self.out[self.at..to].copy_from_slice(bytes);
+        self.at = to;
     }
-    if value < 10 {
-        out[at] = 48 + value as u8;
-        return at + 1;
+
+    // A number in decimal.
+    fn number(&mut self, value: u32)
+        requires { HasRoom self.old 10 }
+        ensures { Writes self.old self.new (decimal_of value) }
+    {
+        let mut digits = Buffer::new();
+        self.word(digits.format(value).as_bytes());
     }
-    let to = digits(out, at, value / 10, most - 1);
-    out[to] = 48 + (value % 10) as u8;
-    to + 1
-}
 
-// A word and a number.
-pub fn item(out: &mut [u8], at: usize, name: &[u8], value: u32) -> usize
-    requires { at + (length name.now + 10) ≤ length out.old }
-    ensures { Adds out.old out.new at result (item name.now value) }
-{
-    let to = word(out, at, name);
-    digits(out, to, value, 10)
-}
+    // A word and a number.
+    pub fn item(&mut self, name: &[u8], value: u32)
+        requires { HasRoom self.old (length name.now + 10) }
+        ensures { Writes self.old self.new (item name.now value) }
+    {
+        self.word(name);
+        self.number(value);
+    }
 
-// And a newline.
-pub fn line(out: &mut [u8], at: usize, name: &[u8], value: u32) -> usize
-    requires { at + (length name.now + 11) ≤ length out.old }
-    ensures { Adds out.old out.new at result (line name.now value) }
-{
-    let to = item(out, at, name, value);
-    out[to] = 10;
-    to + 1
+    // And a newline.
+    pub fn line(&mut self, name: &[u8], value: u32)
+        requires { HasRoom self.old (length name.now + 11) }
+        ensures { Writes self.old self.new (line name.now value) }
+    {
+        self.item(name, value);
+        self.word(b"\n");
+    }
 }

@@ -3,12 +3,23 @@ use Prim.Native.Nat.{ℕ, ◌+◌, ◌*◌, ◌≤◌, ◌<◌}
 use native.Mathlib.Nat.{mul-le-mul}
 use native.Mathlib.Omega.{arith}
 use native.Mathlib.Decide.{dec_lt}
-use mathlib.Core.Path.{◌≡◌, subst}
+use Rattle.std.proofs.lemmas.Bool.{eqb-true, eq-eqb}
+use mathlib.Core.Path.{◌≡◌, refl, subst}
 use mathlib.Core.Logic.{◌≢◌}
+use mathlib.Core.Bool.{Bool, true, false}
+use lib.Dec.{eqb}
 
 -- a cell's place is far below what 32 bits hold
 pub small : (p w : ℕ) → p < 64 → w ≤ 2880 → p * w ≤ 181440
 small p w hp hw = let few : p ≤ 63 = omega arith in mul-le-mul {m₁ = w} few hw
+
+-- what holds either way of a test of two numbers holds of the test
+pub by_test : (P : Bool → Type 0) (x y : ℕ) → (x ≡ y → P true) → (x ≢ y → P false) → P (eqb x y)
+by_test P x y yes_then no_then = at (eqb x y) refl
+  where
+    at : (b : Bool) → eqb x y ≡ b → P b
+    at true e = yes_then (eqb-true x y e)
+    at false e = no_then (λ same. absurd (cc (eq-eqb x y same, e)))
 
 -- no value before t, and not at t: none before t + 1
 pub none_yet : (low : ℕ) (f : ℕ → ℕ) (v t : ℕ) → ((u : ℕ) → low ≤ u → u < t → f u ≢ v) → f t ≢ v

@@ -13,22 +13,20 @@ use borrow.Author.Tests.{leb-true}
 use Rattle.source.specs.Source.{Source, file_of}
 use Rattle.network.specs.declared.Head.{Head}
 use Rattle.network.specs.Reading.{found}
-use Rattle.network.specs.declared.NetworkFound.{NetworkFound}
+use Rattle.std.specs.Prelude.{Ok}
 use Rattle.network.specs.declared.Size.{Size}
 use Rattle.network.specs.Network.{edition1, band, bands, bare, with_band, head, leg, of_file}
-use Rattle.network.specs.Answers.{leg_found, network_found}
+use Rattle.network.specs.Answers.{network_found}
 use Rattle.network.proofs.Inversion.{inner-step, head-inv}
 use Rattle.network.proofs.Sound.{SoundLeg}
 use Rattle.plan.specs.Network.{Minute, Network, Query, Within}
 use Rattle.plan.specs.Table.{width}
-use Rattle.plan.specs.Legs.{no_leg}
 use Rattle.plan.proofs.Walk.{Fits}
 use Rattle.chart.specs.Chart.{Chart}
-use Rattle.chart.specs.Net.{net_in, theory_in}
-use Rattle.chart.proofs.Charting.{charted-leg}
-use Rattle.chart.proofs.Net.{places-are, few_places, charted, leg-known, leg-sound, leg-is}
+use Rattle.chart.specs.Net.{net_in, theory_in, leg_in}
+use Rattle.chart.proofs.Net.{places-are, few_places, charted, leg-known, leg-sound}
 use Rattle.walk.specs.Cells.{InTable}
-use Rattle.walk.specs.Walk.{LegFits, LegStands, ReadsFrom}
+use Rattle.walk.specs.Walk.{LegFits, ReadsFrom}
 
 -- leg k of the network is this one
 pub record HasLeg (N : Network) (k : ℕ) (l : Leg) : Type 0 where
@@ -69,6 +67,11 @@ pub reads-from : (l : Leg) (cells : List ℕ) (q : Query) (places : ℕ) → pla
 reads-from l cells q places few s room =
     record { place = omega (arith, s.from_below); room = row_room (width q) (length cells) l.from places (omega (arith, s.from_below)) room }
 
+-- a leg stands at this bit: where it goes to stands 6 bits further on
+pub record LegStands (s : List ℕ) (at : ℕ) (l : Leg) : Type 0 where
+  pub there : at + 12 ≤ 8 * length s
+  pub target : l.to ≡ field s (at + 6) 6
+
 -- where a leg goes to, straight from the file
 bands-keep : (src : Source) (n least : ℕ) (l : Leg) (at : ℕ) (l' : Leg) (end : ℕ) → bands n least l src at ≡ found l' end → l'.to ≡ l.to
 unfolding bands
@@ -87,7 +90,7 @@ leg-target s places at l end e =
       omega (arith, leb-true (at + 6 + 6) (8 * length s) r.to_there),
     )
 
-module _ (s : List ℕ) (size : Size) (ok : network_found (of_file s) ≡ NetworkFound.Sound size) where
+module _ (s : List ℕ) (size : Size) (ok : network_found (of_file s) ≡ Ok size) where
   -- a cell of the window is in the table
   pub in_table : (q : Query) (cells : List ℕ) → size.places * width q ≤ length cells → q.latest ≤ 2879 → (p : ℕ) (t : Minute) → Within (theory_in s) q p t
       → InTable cells q p t
@@ -101,33 +104,19 @@ module _ (s : List ℕ) (size : Size) (ok : network_found (of_file s) ≡ Networ
         room = row_room (width q) (length cells) p size.places below room;
       }
 
-  -- the leg that the chart gives stands there
-  pub leg-stands : (chart : List ℕ) → Chart s chart → (k : ℕ) → k < size.legs → LegStands s size.places (get_or chart k 0)
+  -- the leg stands where the chart says
+  pub leg-stands : (chart : List ℕ) → Chart s chart → (k : ℕ) → k < size.legs → LegStands s (get_or chart k 0) (leg_in s k)
   leg-stands chart by k below =
       let c = charted s size ok chart by in
-      let within = leg-known s size ok k below in
-      let e = c.stands k within in
-      let t = leg-target s (net_in s).places (get_or chart k 0) (get_or (net_in s).legs k no_leg) e.0 e.1 in
-      let is = charted-leg s (net_in s) chart c k within in
-      let sound = leg-sound s size ok k below in
-      subst (λ (n : ℕ). LegStands s n (get_or chart k 0)) (sym (places-are s size ok))
-      (record {
-        near = c.near k;
-        there = t.1;
-        target = ap (λ (x : Leg). x.to) is ∙ t.0;
-        few_bands = omega (arith, ap (λ (x : Leg). x.count) is, sound.few_bands);
-        time_within = omega (arith, ap (λ (x : Leg). x.time.0) is, sound.time_within);
-      })
+      let e = c.stands k (leg-known s size ok k below) in
+      let t = leg-target s (net_in s).places (get_or chart k 0) (leg_in s k) e.0 e.1 in
+      record { there = t.1; target = t.0 }
 
-  -- THE LEG that the chart gives is the network's
-  module _ (chart : List ℕ) (by : Chart s chart) (k : ℕ) (below : k < size.legs) (l : Leg)
-      (is : l ≡ (leg_found (leg edition1 size.places (file_of s) (get_or chart k 0))).leg) where
-    this-leg : l ≡ get_or (net_in s).legs k no_leg
-    this-leg = is ∙ leg-is s size ok k below chart by
-
+  -- LEG k of the network, under whatever name
+  module _ (k : ℕ) (below : k < size.legs) (l : Leg) (is : l ≡ leg_in s k) where
     pub has-leg : HasLeg (theory_in s) k l
     has-leg =
-        subst (λ (x : Leg). HasLeg (theory_in s) k x) (sym this-leg)
+        subst (λ (x : Leg). HasLeg (theory_in s) k x) (sym is)
         (record {
           known = leg-known s size ok k below;
           source = refl;
@@ -140,4 +129,4 @@ module _ (s : List ℕ) (size : Size) (ok : network_found (of_file s) ≡ Networ
     pub sound-leg : SoundLeg size.places l
     sound-leg =
         subst (λ (n : ℕ). SoundLeg n l) (sym (places-are s size ok))
-        (subst (λ (x : Leg). SoundLeg (net_in s).places x) (sym this-leg) (leg-sound s size ok k below))
+        (subst (λ (x : Leg). SoundLeg (net_in s).places x) (sym is) (leg-sound s size ok k below))

@@ -8,16 +8,16 @@ use lib.ListN.{length}
 use Rattle.bits.specs.Packed.{bits_of}
 use Rattle.bits.proofs.Packing.{bits-append}
 use Rattle.leg.specs.declared.Leg.{Leg}
-use Rattle.source.specs.declared.Origin.TheVariants.{Numbers}
 use Rattle.source.specs.Source.{list_of}
-use Rattle.network.specs.declared.LegFound.{LegFound}
-use Rattle.network.specs.Reading.{Found, found, next}
+use Rattle.network.specs.Reading.{found, next}
 use Rattle.network.specs.Network.{edition1, leg, legs}
-use Rattle.network.specs.Answers.{leg_found}
+use Rattle.answer.specs.declared.Refusal.{Refusal}
+use Rattle.std.specs.Prelude.{Err}
+use Rattle.network.specs.Answers.{given}
 use Rattle.network.specs.Fields.{leg_fields, legs_fields}
 use Rattle.network.proofs.Inversion.{inner-step}
 use Rattle.network.proofs.Legs.{legs-more, legs-done}
-use Rattle.network.proofs.Near.{leg-near}
+use Rattle.network.proofs.Near.{leg-near, list_near}
 use Rattle.network.proofs.Fields.{legs-fields-more, leg-bits}
 use Rattle.write_call.specs.Steps.{Adds, Small, LegsFit, LegsPut}
 use Rattle.write_call.proofs.Adding.{adds_none, adds_then}
@@ -27,9 +27,6 @@ legs-step : (places n m : ℕ) (before : List Leg) (list : List ℕ) (at : ℕ) 
     → legs edition1 places n before (list_of list) at ≡ next (leg edition1 places (list_of list) at) (λ (l : Leg) (at₁ : ℕ). legs edition1 places m (before ++ (l ∷ [])) (list_of list) at₁)
 unfolding legs
 legs-step places n m before list at e = rw e
-
-answered : (x : Found Leg) (r : LegFound) (l : Leg) (at : ℕ) → r ≡ leg_found x → x ≡ found l at → r ≡ leg_found (found l at)
-answered x r l at e q = e ∙ ap leg_found q
 
 no-legs-fields : legs_fields edition1 [] ≡ []
 unfolding legs_fields
@@ -72,16 +69,16 @@ half-none list places n out =
       added = rw no-legs-fields (adds_none out 25);
     }
 
--- this turn's leg: it was found, its numbers fit, and there is room for it
-pub record Turn (list : List ℕ) (places place at room : ℕ) (r : LegFound) : Type 0 where
-  pub found_leg : leg edition1 places (list_of list) place ≡ found r.leg r.after
-  pub small : Small r.leg
-  pub fits : at + 28 + 28 * r.leg.count ≤ 8 * room
+-- this turn's leg: its numbers fit, and there is room for it
+pub record Turn (at room : ℕ) (l : Leg) : Type 0 where
+  pub small : Small l
+  pub fits : at + 28 + 28 * l.count ≤ 8 * room
 
 module _ (list : List ℕ) (places n k place at : ℕ) (first out : List ℕ) (fit : LegsFit list places n (length first)) (h : Half list places n k place at first out)
-    (below : k < n) (r : LegFound) (e : r ≡ leg_found (leg edition1 places (list_of list) place)) where
-  pub turn : Turn list places place at (length first) r
-  turn =
+    (below : k < n) where
+  -- the next leg is there, and so is room for it
+  next-leg : (l : Leg) × (after : ℕ) × (leg edition1 places (list_of list) place ≡ found l after) × (at + 28 + 28 * l.count ≤ 8 * length first)
+  next-leg =
       let src = list_of list in
       let m = n - (k + 1) in
       let left : n - k ≡ suc m = omega arith in
@@ -89,31 +86,36 @@ module _ (list : List ℕ) (places n k place at : ℕ) (first out : List ℕ) (f
       inner-step fit.all fit.end (leg edition1 places src place) (λ (l : Leg) (at₁ : ℕ). legs edition1 places m (h.before ++ (l ∷ [])) src at₁)
       (sym (h.rest ∙ legs-step places (n - k) m h.before list place left) ∙ fit.read)
       in
-      let is = answered (leg edition1 places src place) r s.0 s.1 e s.2 in
-      let here : leg edition1 places src place ≡ found r.leg r.after = rw is s.2 in
       let f = legs-further list places m (h.before ++ (s.0 ∷ [])) s.1 fit.all fit.end s.3 in
       let room = next_fits h.before f.more fit.all s.0 (length first) f.all_are fit.fit in
-      record {
-        found_leg = here;
-        small = leg_small list places place r.leg r.after fit.places_few here;
-        fits = rw (is, h.reached) room;
-      }
+      (s.0, s.1, s.2, rw h.reached room)
 
-  pub half-more : (after : List ℕ) → Adds out after at (leg_fields edition1 r.leg) → Half list places n (k + 1) r.after (at + (28 + 28 * r.leg.count)) first after
-  half-more after a =
-      let b = h.before in
-      let l = r.leg in
-      let t = turn.found_leg in
-      let left : n - k ≡ suc (n - (k + 1)) = omega arith in
-      let fields = legs-fields-more edition1 b l in
-      record {
-        before = b ++ (l ∷ []);
-        rest = h.rest ∙ legs-more edition1 places (list_of list) (n - k) (n - (k + 1)) place b left l r.after t;
-        near = omega (arith, h.near, (leg-near Numbers [] list places place l r.after t).0);
-        low = omega (arith, h.low, (leg-near Numbers [] list places place l r.after t).1);
-        reached = rw (fields, bits-append) (omega (arith, h.reached, leg-bits l));
-        added = rw fields (adds_then (legs_fields edition1 b) (leg_fields edition1 l) h.added (rw (← h.reached) a));
-      }
+  -- so it is not refused
+  pub not-refused : (why : Refusal) → given (leg edition1 places (list_of list) place) ≡ Err why → ⊥
+  not-refused why e = let s = next-leg in cc (ap given s.2)
+
+  module _ (l : Leg) (after : ℕ) (e : leg edition1 places (list_of list) place ≡ found l after) where
+    pub turn : Turn at (length first) l
+    turn =
+        let s = next-leg in
+        let same : s.0 ≡ l = cc (s.2, e) in
+        record {
+          small = leg_small list places place l after fit.places_few e;
+          fits = rw same at s.3;
+        }
+
+    pub half-more : (next : List ℕ) → Adds out next at (leg_fields edition1 l) → Half list places n (k + 1) after (at + (28 + 28 * l.count)) first next
+    half-more next a =
+        let b = h.before in
+        let fields = legs-fields-more edition1 b l in
+        record {
+          before = b ++ (l ∷ []);
+          rest = h.rest ∙ legs-more edition1 places (list_of list) (n - k) (n - (k + 1)) place b (omega arith) l after e;
+          near = omega (arith, h.near, (leg-near (list_of list) (list_near list) places place l after e).0);
+          low = omega (arith, h.low, (leg-near (list_of list) (list_near list) places place l after e).1);
+          reached = rw (fields, bits-append) (omega (arith, h.reached, leg-bits l));
+          added = rw fields (adds_then (legs_fields edition1 b) (leg_fields edition1 l) h.added (rw (← h.reached) a));
+        }
 
 pub half-all : (list : List ℕ) (places n k place at : ℕ) (first out : List ℕ) → Half list places n k place at first out → n ≤ k → LegsPut list places n first out
 half-all list places n k place at first out h done all end e =

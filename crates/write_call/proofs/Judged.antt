@@ -8,14 +8,13 @@ use lib.ListN.{length, get_or, set, replicate}
 use Rattle.leg.specs.declared.Band.{Band}
 use Rattle.leg.specs.declared.Leg.{Leg}
 use Rattle.leg.specs.Ranges.{last_minute, most_cents, no_band}
-use Rattle.source.specs.declared.Origin.TheVariants.{Numbers}
 use Rattle.source.specs.Source.{Source, list_of}
 use Rattle.network.specs.Reading.{found}
 use Rattle.network.specs.Network.{Network, edition1, band, bands, bare, with_band, head, leg, legs, of_list}
 use Rattle.network.specs.Answers.{bands_of}
 use Rattle.network.proofs.Inversion.{inner-step, band-inv, start_small, head-inv}
 use Rattle.network.proofs.Accepted.{accepted}
-use Rattle.network.proofs.Near.{leg-near}
+use Rattle.network.proofs.Near.{leg-near, list_near}
 use Rattle.network.proofs.Sound.{network-sound, bands_few}
 use Rattle.write_call.specs.Steps.{Small}
 
@@ -78,7 +77,7 @@ module _ (list : List ℕ) (places : ℕ) where
         from_small = omega (arith, from, b.same_from);
         to_small = omega (arith, to, b.same_to);
         time_small = omega (arith, time, b.same_time);
-        count_small = (leg-near Numbers [] list places at l end e).1;
+        count_small = (leg-near (list_of list) (list_near list) places at l end e).1;
         bands_small = b.small;
       }
 
@@ -99,7 +98,7 @@ module _ (list : List ℕ) (places : ℕ) where
       let src = list_of list in
       let s = inner-step all end (leg edition1 places src at) (λ l at₁. legs edition1 places n (before ++ (l ∷ [])) src at₁) e in
       let r = legs-further n (before ++ (s.0 ∷ [])) s.1 all end s.3 in
-      let near = leg-near Numbers [] list places at s.0 s.1 s.2 in
+      let near = leg-near (list_of list) (list_near list) places at s.0 s.1 s.2 in
       record {
         more = s.0 ∷ r.more;
         all_are = r.all_are ∙ append_assoc before (s.0 ∷ []) r.more;

@@ -9,8 +9,8 @@ ghost use Rattle.write_call.specs.Write.{Writes};
 
 use answer::{Answer, Refusal};
 use leg::Leg;
-use network::{NetworkFound, Size};
-use source::Origin;
+use network::Size;
+use source::Numbers;
 
 // The head of a leg, at bit `at`: from 6, to 6, driving time 12, bands 4.
 fn put_head(out: &mut [u8], at: usize, leg: Leg)
@@ -30,13 +30,9 @@ fn put_bands(out: &mut [u8], at: usize, leg: Leg)
     requires { Small leg × (at ≤ 1000000) × (at + 28 * leg.count ≤ 8 * length out.old) }
     ensures { Adds out.old out.new at (bands_fields leg.count leg.bands) }
 {
-    let bands = leg.bands;
-    let count = leg.count;
-    let mut k = 0;
-    while k < count {
-        let band = bands[k];
+    for k in 0..leg.count {
+        let band = leg.bands[k];
         bits::put(out, at + 28 * k, 28, band.start.0 * 0x1_0000 + band.toll.0);
-        k += 1;
     }
 }
 
@@ -50,25 +46,24 @@ fn put_leg(out: &mut [u8], at: usize, leg: Leg)
 }
 
 // The legs of a list that was judged, behind the head of the network.
-fn put_legs(list: &[u32], nothing: &[u8], out: &mut [u8], places: u32, legs: usize)
+fn put_legs(list: &[u32], out: &mut [u8], places: u32, legs: usize)
     requires { LegsFit list.now places legs (length out.old) }
     ensures { LegsPut list.now places legs out.old out.new }
 {
     let mut place = 3;
     let mut at = 25;
-    let mut k = 0;
-    while k < legs {
-        let found = network::leg_from(Origin::Numbers, nothing, list, place, places);
-        let leg = found.leg;
+    for k in 0..legs {
+        let Ok((leg, after)) = network::leg_from(&Numbers(list), place, places) else {
+            unreachable!()
+        };
         put_leg(out, at, leg);
         at += 28 + 28 * leg.count;
-        place = found.after;
-        k += 1;
+        place = after;
     }
 }
 
 // The file of a list that was judged, into just as many bytes as it has.
-fn put_file(list: &[u32], nothing: &[u8], out: &mut [u8], size: Size)
+fn put_file(list: &[u32], out: &mut [u8], size: Size)
     requires { Accepted list.now size (length out.old) }
     ensures { FileOf list.now out.new }
 {
@@ -76,25 +71,18 @@ fn put_file(list: &[u32], nothing: &[u8], out: &mut [u8], size: Size)
     let legs = size.legs;
     bits::clear(out);
     bits::put(out, 0, 25, 0x2_0000 + places * 0x400 + legs as u32);
-    put_legs(list, nothing, out, places, legs);
+    put_legs(list, out, places, legs);
 }
 
 // The write call: the file of the network that the list stands for, at the front of the output.
 pub fn write(list: &[u32], out: &mut [u8]) -> Answer
     ensures { Writes list.now out.old out.new result }
 {
-    let nothing = [0; 1];
-    let found = network::network_from(Origin::Numbers, &nothing, list);
-    match found {
-        NetworkFound::Refused(why) => Answer::Refused(why),
-        NetworkFound::Sound(size) => {
-            let bytes = (32 + 28 * size.legs + 28 * size.bands) / 8;
-            if out.len() < bytes {
-                return Answer::Refused(Refusal::Room);
-            }
-            put_file(list, &nothing, &mut out[..bytes], size);
-            let written = bytes as u32;
-            Answer::Done(written)
-        }
+    let size = network::network_from(&Numbers(list))?;
+    let bytes = (32 + 28 * size.legs + 28 * size.bands) / 8;
+    if out.len() < bytes {
+        return Err(Refusal::Room);
     }
+    put_file(list, &mut out[..bytes], size);
+    Ok(bytes as u32)
 }

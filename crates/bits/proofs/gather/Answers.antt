@@ -7,18 +7,12 @@ use Rattle.bits.proofs.Bytes.{joined, bytes_below}
 use Rattle.bits.proofs.gather.Goals as goal
 
 pub loop-k-init : goal.loop-k-init
-loop-k-init c = (omega arith, sym (field-none c.args.s.now (8 * c.args.i)))
+loop-k-init c = sym (field-none c.args.s.now (8 * c.args.i))
 
 pub overflow_mul-word : goal.overflow_mul-word
 overflow_mul-word c =
     let a = c.args in
     omega (arith, bytes_below a.s.now a.i c.loop-k.k 7 (omega arith))
-
-pub overflow_add-i : goal.overflow_add-i
-overflow_add-i c = omega arith
-
-pub byte-requires : goal.byte-requires
-byte-requires c = omega arith
 
 pub overflow_add-word : goal.overflow_add-word
 overflow_add-word c =
@@ -26,21 +20,15 @@ overflow_add-word c =
     let k = c.loop-k.k in
     omega (arith, bytes_below a.s.now a.i k 7 (omega arith))
 
-pub overflow_add-k : goal.overflow_add-k
-overflow_add-k c = omega arith
-
-pub loop-k-smaller : goal.loop-k-smaller
-loop-k-smaller c = omega arith
-
 pub loop-k-preserved : goal.loop-k-preserved
 loop-k-preserved c =
     let a = c.args in
     let k = c.loop-k.k in
     let next : 8 * (k + 1) ≡ 8 * k + 8 = omega arith in
-    (omega arith, rw next (joined a.s.now a.i k 8 c.loop-k.invariant.1 c.byte.ensures.0))
+    rw next (joined a.s.now a.i k 8 c.loop-k.invariant c.byte.ensures.0)
 
 pub returns : goal.returns
 returns c =
     let a = c.args in
     let all : c.loop-k.k ≡ a.count = omega arith in
-    rw (← all) c.loop-k.invariant.1
+    rw (← all) c.loop-k.invariant

@@ -1,11 +1,8 @@
 -- `bits::gather`: the number so far is the field of the bytes passed.
-use Prim.Native.Nat.{◌-◌, ◌*◌, ◌≤◌}
+use Prim.Native.Nat.{◌*◌}
 use mathlib.Core.Path.{◌≡◌}
 use Rattle.bits.specs.Field.{field}
 use Rattle.bits.proofs.gather.Given as goal
 
 abbrev pub invariant-loop-k : goal.invariant-loop-k
-invariant-loop-k l = (l.k ≤ l.count) × (l.word ≡ field l.s (8 * l.i) (8 * l.k))
-
-abbrev pub decreases-loop-k : goal.decreases-loop-k
-decreases-loop-k l = l.count - l.k
+invariant-loop-k l = l.word ≡ field l.s (8 * l.i) (8 * l.k)

@@ -1,10 +1,7 @@
 -- `bits::scatter`: the bytes passed hold the high bytes of the number.
-use Prim.Native.Nat.{◌-◌, ◌*◌, ◌/◌, ◌^◌, ◌≤◌}
+use Prim.Native.Nat.{◌-◌, ◌*◌, ◌/◌, ◌^◌}
 use Rattle.bits.specs.Word.{Stored}
 use Rattle.bits.proofs.scatter.Given as goal
 
 abbrev pub invariant-loop-k : goal.invariant-loop-k
-invariant-loop-k l = (l.k ≤ l.count) × Stored l.initial.s l.s l.i l.k (l.word / 2 ^ (8 * (l.count - l.k)))
-
-abbrev pub decreases-loop-k : goal.decreases-loop-k
-decreases-loop-k l = l.count - l.k
+invariant-loop-k l = Stored l.initial.s l.s l.i l.k (l.word / 2 ^ (8 * (l.count - l.k)))

@@ -2,19 +2,18 @@
 use Prim.Native.Nat.{ℕ, ◌+◌, ◌*◌, ◌≤◌, ◌<◌}
 use native.Mathlib.Omega.{arith}
 use mathlib.Core.Path.{◌≡◌, sym, ap, subst}
-use mathlib.Core.List.{List, []}
+use mathlib.Core.List.{List}
 use lib.ListN.{set}
 use Rattle.leg.specs.declared.Leg.{Leg}
-use Rattle.source.specs.declared.Origin.{Origin}
 use Rattle.source.specs.Source.{file_of}
-use Rattle.network.specs.declared.NetworkFound.{NetworkFound}
+use Rattle.std.specs.Prelude.{Ok}
 use Rattle.network.specs.declared.Size.{Size}
 use Rattle.network.specs.Reading.{found}
 use Rattle.network.specs.Network.{Network, edition1, leg, of_file}
 use Rattle.network.specs.Answers.{network_found}
 use Rattle.network.proofs.Accepted.{passed-leg}
 use Rattle.network.proofs.Files.{sound-file, one-network}
-use Rattle.network.proofs.Near.{leg-near, LegEnds, leg-ends}
+use Rattle.network.proofs.Near.{file_near, leg-near, LegEnds, leg-ends}
 use Rattle.chart.specs.Chart.{Charted}
 use Rattle.chart.proofs.Charting.{Charting, charting-none, charting-more, charting-at, charting-all}
 use Rattle.chart.proofs.chart.Goals as goal
@@ -27,7 +26,7 @@ record Next (net : List ℕ) (size : Size) (k place : ℕ) : Type 0 where
   ends : LegEnds net place end
   near : end ≤ place + 252
 
-next : (net : List ℕ) (size : Size) (k place : ℕ) (chart : List ℕ) → network_found (of_file net) ≡ NetworkFound.Sound size → k < size.legs
+next : (net : List ℕ) (size : Size) (k place : ℕ) (chart : List ℕ) → network_found (of_file net) ≡ Ok size → k < size.legs
     → Charting net size.places size.legs k place chart → Next net size k place
 next net size k place chart sound h p =
     let f = sound-file net size sound in
@@ -37,7 +36,7 @@ next net size k place chart sound h p =
       end = t.1;
       stands = t.2;
       ends = leg-ends net size.places place t.0 t.1 t.2;
-      near = (leg-near Origin.File net [] size.places place t.0 t.1 t.2).0;
+      near = (leg-near (file_of net) (file_near net) size.places place t.0 t.1 t.2).0;
     }
 
 pub loop-k-init : goal.loop-k-init
@@ -46,14 +45,14 @@ loop-k-init c =
     let f = sound-file a.net.now a.size c.requires in
     let few = f.sound.few_legs in
     let size = ap (λ (x : Size). x.legs) f.size_is in
-    (omega arith, omega (arith, few, size), omega arith, λ z e. charting-none a.net.now z.places a.size.legs)
+    (omega (arith, few, size), omega arith, λ z e. charting-none a.net.now z.places a.size.legs)
 
 pub field-bands-requires : goal.field-bands-requires
 field-bands-requires c =
     let a = c.args in
     let l = c.loop-k in
     let sound = c.requires in
-    let n = next a.net.now a.size l.k l.place l.chart sound (omega arith) (l.invariant.3 a.size sound) in
+    let n = next a.net.now a.size l.k l.place l.chart sound (omega arith) (l.invariant.2 a.size sound) in
     (omega arith, omega arith, omega (arith, n.ends.there))
 
 pub loop-k-preserved : goal.loop-k-preserved
@@ -61,11 +60,10 @@ loop-k-preserved c =
     let a = c.args in
     let l = c.loop-k in
     let sound = c.requires in
-    let p = l.invariant.3 a.size sound in
+    let p = l.invariant.2 a.size sound in
     let n = next a.net.now a.size l.k l.place l.chart sound (omega arith) p in
     let there : l.place + (28 + 28 * c.field-bands.result) ≡ n.end = omega (arith, n.ends.end_is, c.field-bands.ensures) in (
-      omega arith,
-      l.invariant.1,
+      l.invariant.0,
       omega (arith, n.near, there),
       λ z e.
           let same : a.size ≡ z = cc in
@@ -80,7 +78,7 @@ returns c net end e =
     let l = c.loop-k in
     let sound = c.requires in
     let f = sound-file a.net.now a.size sound in
-    let p = l.invariant.3 a.size sound in
+    let p = l.invariant.2 a.size sound in
     let places = ap (λ (x : Size). x.places) f.size_is in
     let all = charting-all a.net.now a.size.places a.size.legs l.k l.place l.chart p (omega arith) f.net.legs f.end f.legs_read in
     subst (λ (n : Network). Charted a.net.now n l.chart) (sym (one-network a.net.now a.size f net end e))

@@ -1,7 +1,11 @@
 use Prim.Native.Nat.{ℕ, ◌+◌, ◌*◌, ◌/◌, ◌%◌}
 use lib.Seq.{length-take-le}
-use mathlib.Core.Path.{sym, ap, ◌∙◌}
-use Rattle.answer.specs.declared.PlanAnswer.{PlanAnswer}
+use mathlib.Core.Path.{◌≡◌, sym, ap, ◌∙◌, subst}
+use mathlib.Core.List.{List}
+use Rattle.network.specs.declared.Size.{Size}
+use Rattle.tabled.specs.Tabled.{Tabled}
+use Rattle.walk.specs.Walk.{NamedFile}
+use Rattle.answer.specs.Plans.{none_filed}
 use Rattle.plan_file.specs.PlanFile.{query_of, none_file}
 use Rattle.tabled.proofs.Serving.{end-in}
 use Rattle.chart.specs.Net.{theory_in}
@@ -13,14 +17,14 @@ use Rattle.plan_call.proofs.answer.Goals as goal
 pub returns-then-out-lt12 : goal.returns-then-out-lt12
 returns-then-out-lt12 c =
     let a = c.args in
-    no_room (theory_in a.net.now) (query_of a.query) a.out.now (none_file (query_of a.query)) PlanAnswer.NoPlan
+    no_room (theory_in a.net.now) (query_of a.query) a.out.now (none_file (query_of a.query)) none_filed
     (none_right a.net.now a.size a.query a.cells.now c.requires (sym c.cell.ensures ∙ c.if-cell.true))
     c.if-out-lt12.true
 
 pub returns-then-cell : goal.returns-then-cell
 returns-then-cell c =
     let a = c.args in
-    room (theory_in a.net.now) (query_of a.query) a.out.now c.write_none.new.file (none_file (query_of a.query)) PlanAnswer.NoPlan
+    room (theory_in a.net.now) (query_of a.query) a.out.now c.write_none.new.file (none_file (query_of a.query)) none_filed
     (none_right a.net.now a.size a.query a.cells.now c.requires (sym c.cell.ensures ∙ c.if-cell.true))
     c.write_none.ensures 12 (c.write_none.auto.file ∙ length-take-le 12 a.out.now c.if-out-lt12.false) c.if-out-lt12.false
 
@@ -34,7 +38,9 @@ pub returns : goal.returns
 returns c =
     let a = c.args in
     let n = (96 + 21 * (c.cell-legs.result % 64)) / 8 in
-    written (theory_in a.net.now) (query_of a.query) a.out.now c.write_plan.new.file c.write_plan.ensures n
+    let net : c.of-tariff.result.net.now ≡ a.net.now = ap (λ r. r.now) c.of-tariff.ensures.0 in
+    let named = subst (λ (s : List ℕ). NamedFile (theory_in s) (query_of a.query) c.write_plan.new.file) net c.write_plan.ensures in
+    written (theory_in a.net.now) (query_of a.query) a.out.now c.write_plan.new.file named n
     (c.write_plan.auto.file ∙ length-take-le n a.out.now c.if-out-bytes.false) c.if-out-bytes.false
 
 pub cell-requires : goal.cell-requires
@@ -61,9 +67,10 @@ slice_bounds-write_plan-end-2 c = sym (length-take-le _ c.args.out.now c.if-out-
 pub write_plan-requires : goal.write_plan-requires
 write_plan-requires c =
     let a = c.args in
+    let t = c.of-tariff.result in
+    let net : t.net.now ≡ a.net.now = ap (λ r. r.now) c.of-tariff.ensures.0 in
+    let tabled = subst (λ (s : List ℕ). Tabled s t.size a.query a.cells.now) (sym net)
+    (subst (λ (z : Size). Tabled a.net.now z a.query a.cells.now) (sym c.of-tariff.ensures.1) c.requires) in
     let long = length-take-le ((96 + 21 * (c.cell-legs.result % 64)) / 8) a.out.now c.if-out-bytes.false in
-    let legs = ap (λ (x : ℕ). x % 64) c.cell-legs.ensures in (
-      ending a.net.now a.size a.query a.cells.now c.requires (λ e. c.if-cell.false (c.cell.ensures ∙ e)) _ c.first-arrival.ensures
-          _ c.chart-chart.ensures,
-      long ∙ omega (arith, legs),
-    )
+    let legs = ap (λ (x : ℕ). x % 64) c.cell-legs.ensures in
+    (ending _ tabled (λ e. c.if-cell.false (c.cell.ensures ∙ e)) _ c.first-arrival.ensures, long ∙ omega (arith, legs))

@@ -29,12 +29,12 @@ returns c =
     let p = a.place in
     let bands = (leg_at s p).bands in
     let h = head-split s p c.field-head.result c.field-head.ensures in
-    let all : l.k ≡ (leg_at s p).count = omega (arith, l.invariant.0, c.loop-k-test.false, count_is (goal.at.returns c).After-field-head) in
-    let first = four_same a.list.now _ a.at (field s p 6) (field s (p + 6) 6) (field s (p + 12) 12) (field s (p + 24) 4) c.four.ensures
+    let all : l.k ≡ (leg_at s p).count = omega (arith, l.auto.k-end, c.loop-k-test.false, count_is (goal.at.returns c).After-field-head) in
+    let first = four_same a.list.now _ a.at (field s p 6) (field s (p + 6) 6) (field s (p + 12) 12) (field s (p + 24) 4) c.store.ensures
     (omega (arith, h.first, h.first_low)) (omega (arith, h.first, h.then, h.then_low, h.to_low)) (omega (arith, h.first, h.then, h.last, h.last_low, h.time_low)) (count_is (goal.at.returns c).After-field-head) in (
       count_is (goal.at.returns c).After-field-head,
-      l.invariant.2
-          ∙ ap (λ (n : ℕ). sets c.four.new.list (a.at + 4) (values (bands_fields n bands))) all
+      l.invariant.1
+          ∙ ap (λ (n : ℕ). sets c.store.new.list (a.at + 4) (values (bands_fields n bands))) all
           ∙ ap (λ (x : List ℕ). sets x (a.at + 4) (values (bands_fields (leg_at s p).count bands))) first
           ∙ leg-stored a.list.now a.at (leg_at s p),
     )
@@ -42,18 +42,18 @@ returns c =
 pub field-head-requires : goal.field-head-requires
 field-head-requires c = (omega arith, omega arith, omega (arith, c.requires.0.inside))
 
-pub four-requires : goal.four-requires
-four-requires c = omega (arith, c.requires.1)
+pub store-requires : goal.store-requires
+store-requires c = omega (arith, c.requires.1)
 
 pub loop-k-init : goal.loop-k-init
 unfolding bands_fields
-loop-k-init c = (omega arith, refl, refl)
+loop-k-init c = (refl, refl)
 
 pub field-band-requires : goal.field-band-requires
 field-band-requires c = (omega arith, omega arith, omega (arith, c.requires.0.inside, count_is (goal.at.field-band-requires c).After-field-head))
 
-pub two-requires : goal.two-requires
-two-requires c = omega (arith, c.requires.1, c.loop-k.invariant.1, c.four.auto.list, count_is (goal.at.two-requires c).After-field-head)
+pub store-requires-in-loop-k : goal.store-requires-in-loop-k
+store-requires-in-loop-k c = omega (arith, c.requires.1, c.loop-k.invariant.0, c.store.auto.list, count_is (goal.at.store-requires-in-loop-k c).After-field-head)
 
 pub loop-k-preserved : goal.loop-k-preserved
 loop-k-preserved c =
@@ -65,11 +65,10 @@ loop-k-preserved c =
     let whole = c.field-band.ensures ∙ field-split s q 12 16 in
     let low = field_below s (q + 12) 16 in
     let here = band-there s (a.place + 28) (leg_at s a.place).count l.k (omega (arith, count_is (goal.at.loop-k-preserved c).After-field-head)) in
-    let numbers = two-same l.list _ (a.at + 4 + 2 * l.k) (field s q 12) (field s (q + 12) 16) c.two.ensures (omega (arith, whole, low)) (omega (arith, whole, low)) in (
-      omega arith,
-      omega (arith, c.two.auto.list, l.invariant.1),
+    let numbers = two-same l.list _ (a.at + 4 + 2 * l.k) (field s q 12) (field s (q + 12) 16) c.store-in-loop-k.ensures (omega (arith, whole, low)) (omega (arith, whole, low)) in (
+      omega (arith, c.store-in-loop-k.auto.list, l.invariant.0),
       numbers
           ∙ sym (ap (λ (b : Band). sets l.list (a.at + 4 + 2 * l.k) (values (band_fields b))) here)
-          ∙ ap (λ (x : List ℕ). sets x (a.at + 4 + 2 * l.k) (values (band_fields (get_or bands l.k no_band)))) l.invariant.2
+          ∙ ap (λ (x : List ℕ). sets x (a.at + 4 + 2 * l.k) (values (band_fields (get_or bands l.k no_band)))) l.invariant.1
           ∙ band-stored _ (a.at + 4) l.k bands,
     )

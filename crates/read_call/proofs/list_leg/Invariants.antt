@@ -1,5 +1,5 @@
 -- `read_call::list_leg`: the head's numbers, then those of the bands passed.
-use Prim.Native.Nat.{◌+◌, ◌-◌, ◌≤◌}
+use Prim.Native.Nat.{◌+◌}
 use mathlib.Core.Path.{◌≡◌}
 use lib.ListN.{length}
 use lib.Seq.{sets}
@@ -9,7 +9,4 @@ use Rattle.read_call.proofs.list_leg.Given as goal
 
 abbrev pub invariant-loop-k : goal.invariant-loop-k
 invariant-loop-k l =
-    (l.k ≤ l.count) × (length l.list ≡ length l.initial.list) × (l.list ≡ sets l.initial.list (l.at + 4) (values (bands_fields l.k (leg_at l.net l.place).bands)))
-
-abbrev pub decreases-loop-k : goal.decreases-loop-k
-decreases-loop-k l = l.count - l.k
+    (length l.list ≡ length l.initial.list) × (l.list ≡ sets l.initial.list (l.at + 4) (values (bands_fields l.k (leg_at l.net l.place).bands)))

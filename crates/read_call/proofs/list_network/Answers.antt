@@ -2,11 +2,10 @@
 use Prim.Native.Nat.{ℕ, ◌+◌, ◌*◌, ◌≤◌}
 use native.Mathlib.Omega.{arith}
 use mathlib.Core.Path.{◌≡◌, refl, ap, ◌∙◌}
-use mathlib.Core.List.{List, []}
+use mathlib.Core.List.{List}
 use lib.ListN.{length, length-set}
 use lib.Seq.{sets}
 use Rattle.leg.specs.declared.Leg.{Leg}
-use Rattle.source.specs.declared.Origin.{Origin}
 use Rattle.source.specs.Source.{file_of}
 use Rattle.bits.specs.Packed.{Entry}
 use Rattle.network.specs.declared.Size.{Size}
@@ -15,7 +14,7 @@ use Rattle.network.specs.Network.{edition1, leg}
 use Rattle.network.specs.Fields.{legs_fields, values}
 use Rattle.network.proofs.Accepted.{passed-leg}
 use Rattle.network.proofs.Files.{sound-file}
-use Rattle.network.proofs.Near.{leg-near, LegEnds, leg-ends}
+use Rattle.network.proofs.Near.{file_near, leg-near, LegEnds, leg-ends}
 use Rattle.network.proofs.InFile.{Same, leg-there, leg-fields-same}
 use Rattle.read_call.proofs.Listing.{listing_none, listing-more, listing-at, listing-all, listed-all}
 use Rattle.read_call.proofs.list_network.Goals.{In-loop-k}
@@ -26,9 +25,9 @@ returns c =
     let a = c.args in
     let l = c.loop-k in
     let f = sound-file a.net.now a.size c.requires.0 in
-    let all = listing-all a.net.now a.size.places a.size.legs _ f.net.legs f.end f.legs_read l.k l.place l.at l.list l.invariant.4 (omega arith) in
+    let all = listing-all a.net.now a.size.places a.size.legs _ f.net.legs f.end f.legs_read l.k l.place l.at l.list l.invariant.3 (omega arith) in
     all
-    ∙ ap (λ (x : List ℕ). sets x 3 (values (legs_fields edition1 f.net.legs))) c.two.ensures
+    ∙ ap (λ (x : List ℕ). sets x 3 (values (legs_fields edition1 f.net.legs))) c.store.ensures
     ∙ listed-all a.net.now a.list.now a.size f c.requires.1
 
 pub overflow_cast-legs : goal.overflow_cast-legs
@@ -37,8 +36,8 @@ overflow_cast-legs c =
     let f = sound-file a.net.now a.size c.requires.0 in
     omega (arith, f.sound.few_legs, ap (λ (x : Size). x.legs) f.size_is)
 
-pub two-requires : goal.two-requires
-two-requires c = simp length-set (omega (arith, c.requires.1))
+pub store-requires : goal.store-requires
+store-requires c = omega (arith, c.requires.1)
 
 pub loop-k-init : goal.loop-k-init
 loop-k-init c =
@@ -46,7 +45,7 @@ loop-k-init c =
     let f = sound-file a.net.now a.size c.requires.0 in
     let few = f.sound.few_legs in
     let size = ap (λ (x : Size). x.legs) f.size_is in
-    (omega arith, omega (arith, few, size), omega arith, refl, listing_none a.net.now a.size.places a.size.legs _)
+    (omega (arith, few, size), omega arith, refl, listing_none a.net.now a.size.places a.size.legs _)
 
 -- this turn's leg, as the definition has it: it is there, and counts among all
 record Turn (c : In-loop-k) : Type 0 where
@@ -57,7 +56,7 @@ record Turn (c : In-loop-k) : Type 0 where
   ends : LegEnds c.args.net.now c.loop-k.place end
   near : end ≤ c.loop-k.place + 252
   few : this.count ≤ 8
-  room : c.loop-k.invariant.4.total + this.count ≤ c.args.size.bands
+  room : c.loop-k.invariant.3.total + this.count ≤ c.args.size.bands
   list-room : c.loop-k.at + (4 + 2 * this.count) ≤ length c.loop-k.list
 
 turn : (c : In-loop-k) → Turn c
@@ -65,9 +64,9 @@ turn c =
     let a = c.args in
     let f = sound-file a.net.now a.size c.requires.0 in
     let l = c.loop-k in
-    let p = l.invariant.4 in
+    let p = l.invariant.3 in
     let t = passed-leg edition1 a.size.places (file_of a.net.now) a.size.legs 25 f.net.legs f.end f.legs_read l.k l.place p.total p.passed (omega arith) in
-    let near = leg-near Origin.File a.net.now [] a.size.places l.place t.0 t.1 t.2 in
+    let near = leg-near (file_of a.net.now) (file_near a.net.now) a.size.places l.place t.0 t.1 t.2 in
     let bands = ap (λ (x : Size). x.bands) f.size_is in
     let room : p.total + t.0.count ≤ a.size.bands = omega (arith, t.3, bands) in
     record {
@@ -79,14 +78,14 @@ turn c =
       near = near.0;
       few = near.1;
       room = room;
-      list-room = omega (arith, room, p.index, l.invariant.3, c.requires.1, c.two.auto.list, length-set a.list.now 0 1);
+      list-room = omega (arith, room, p.index, l.invariant.2, c.requires.1, c.store.auto.list, length-set a.list.now 0 1);
     }
 
 pub list_leg-bands-requires : goal.list_leg-bands-requires
 list_leg-bands-requires c =
     let t = turn (goal.at.list_leg-bands-requires c).In-loop-k in
     let same = t.same in (
-      record { near = omega (arith, c.loop-k.invariant.2, c.loop-k.invariant.1); few = omega (arith, t.few, same.count_is); count_is = refl; inside = omega (arith, same.inside, same.count_is) },
+      record { near = omega (arith, c.loop-k.invariant.1, c.loop-k.invariant.0); few = omega (arith, t.few, same.count_is); count_is = refl; inside = omega (arith, same.inside, same.count_is) },
       omega (arith, t.list-room, same.count_is),
     )
 
@@ -97,7 +96,7 @@ pub overflow_add-at : goal.overflow_add-at
 overflow_add-at c = omega (arith, c.list_leg-bands.ensures.0, (turn (goal.at.overflow_add-at c).In-loop-k).same.count_is, (turn (goal.at.overflow_add-at c).In-loop-k).few)
 
 pub overflow_add-at-in-loop-k : goal.overflow_add-at-in-loop-k
-overflow_add-at-in-loop-k c = omega (arith, c.list_leg-bands.ensures.0, (turn (goal.at.overflow_add-at-in-loop-k c).In-loop-k).same.count_is, (turn (goal.at.overflow_add-at-in-loop-k c).In-loop-k).list-room, c.loop-k.invariant.3, c.two.auto.list, length-set c.args.list.now 0 1, c.well_formed.1.0)
+overflow_add-at-in-loop-k c = omega (arith, c.list_leg-bands.ensures.0, (turn (goal.at.overflow_add-at-in-loop-k c).In-loop-k).same.count_is, (turn (goal.at.overflow_add-at-in-loop-k c).In-loop-k).list-room, c.loop-k.invariant.2, c.store.auto.list, length-set c.args.list.now 0 1, c.well_formed.1.0)
 
 pub overflow_mul-place : goal.overflow_mul-place
 overflow_mul-place c = omega (arith, c.list_leg-bands.ensures.0, (turn (goal.at.overflow_mul-place c).In-loop-k).same.count_is, (turn (goal.at.overflow_mul-place c).In-loop-k).few)
@@ -106,7 +105,7 @@ pub overflow_add-place : goal.overflow_add-place
 overflow_add-place c = omega (arith, c.list_leg-bands.ensures.0, (turn (goal.at.overflow_add-place c).In-loop-k).same.count_is, (turn (goal.at.overflow_add-place c).In-loop-k).few)
 
 pub overflow_add-place-in-loop-k : goal.overflow_add-place-in-loop-k
-overflow_add-place-in-loop-k c = omega (arith, c.list_leg-bands.ensures.0, (turn (goal.at.overflow_add-place-in-loop-k c).In-loop-k).same.count_is, (turn (goal.at.overflow_add-place-in-loop-k c).In-loop-k).few, c.loop-k.invariant.2, c.loop-k.invariant.1)
+overflow_add-place-in-loop-k c = omega (arith, c.list_leg-bands.ensures.0, (turn (goal.at.overflow_add-place-in-loop-k c).In-loop-k).same.count_is, (turn (goal.at.overflow_add-place-in-loop-k c).In-loop-k).few, c.loop-k.invariant.1, c.loop-k.invariant.0)
 
 pub loop-k-preserved : goal.loop-k-preserved
 loop-k-preserved c =
@@ -118,12 +117,11 @@ loop-k-preserved c =
     let next : t.end ≡ l.place + (28 + 28 * r.result) = omega (arith, t.ends.end_is, r.ensures.0) in
     let index : l.at + (4 + 2 * t.this.count) ≡ l.at + (4 + 2 * r.result) = omega (arith, t.same.count_is, r.ensures.0) in (
       omega arith,
-      omega arith,
-      omega (arith, t.near, next, l.invariant.2),
-      omega (arith, l.invariant.3, r.auto.list),
+      omega (arith, t.near, next, l.invariant.1),
+      omega (arith, l.invariant.2, r.auto.list),
       listing-at a.net.now a.size.places a.size.legs (l.k + 1) t.end _ _ _ _ _ next index
-          (listing-more a.net.now a.size.places a.size.legs _ l.k l.place l.at l.list t.this t.end _ l.invariant.4 (omega arith) t.read numbers),
+          (listing-more a.net.now a.size.places a.size.legs _ l.k l.place l.at l.list t.this t.end _ l.invariant.3 (omega arith) t.read numbers),
     )
 
 pub shape_of-list : goal.shape_of-list
-shape_of-list c = omega (arith, c.loop-k.invariant.3, c.two.auto.list, length-set c.args.list.now 0 1)
+shape_of-list c = omega (arith, c.loop-k.invariant.2, c.store.auto.list, length-set c.args.list.now 0 1)

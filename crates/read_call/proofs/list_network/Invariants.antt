@@ -1,5 +1,5 @@
 -- `read_call::list_network`: the legs passed are listed, and the next stands just behind the last one's bands.
-use Prim.Native.Nat.{◌+◌, ◌-◌, ◌*◌, ◌≤◌}
+use Prim.Native.Nat.{◌+◌, ◌*◌, ◌≤◌}
 use mathlib.Core.Path.{◌≡◌}
 use lib.ListN.{length}
 use Rattle.read_call.proofs.Listing.{Listing}
@@ -7,7 +7,4 @@ use Rattle.read_call.proofs.list_network.Given as goal
 
 abbrev pub invariant-loop-k : goal.invariant-loop-k
 invariant-loop-k l =
-    (l.k ≤ l.legs) × (l.legs ≤ 512) × (l.place ≤ 25 + 252 * l.k) × (length l.list ≡ length l.initial.list) × Listing l.net l.places l.legs l.k l.place l.at l.initial.list l.list
-
-abbrev pub decreases-loop-k : goal.decreases-loop-k
-decreases-loop-k l = l.legs - l.k
+    (l.legs ≤ 512) × (l.place ≤ 25 + 252 * l.k) × (length l.list ≡ length l.initial.list) × Listing l.net l.places l.legs l.k l.place l.at l.initial.list l.list

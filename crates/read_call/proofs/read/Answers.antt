@@ -1,44 +1,41 @@
 use Prim.Native.Nat.{◌≤◌}
 use native.Mathlib.Omega.{arith}
+use borrow.Author.Rules.{rules}
+use Rattle.network.specs.declared.Size.{Size}
+use Prim.Native.Nat.{ℕ}
+use mathlib.Core.List.{List}
 use mathlib.Core.Path.{◌≡◌, refl, sym, ◌∙◌}
-use Rattle.network.specs.declared.NetworkFound.{NetworkFound}
+use Rattle.std.specs.Prelude.{Ok}
 use Rattle.network.specs.Network.{of_file}
 use Rattle.network.specs.Answers.{network_found}
 use Rattle.network.proofs.Files.{sound-file, sound-size}
-use Rattle.read_call.proofs.Results.{reads-refused, reads_short, reads-done}
-use Rattle.read_call.proofs.read.Goals.{In-Sound}
+use Rattle.read_call.proofs.Results.{reads_short, reads-done}
 use Rattle.read_call.proofs.read.Goals as goal
 
--- the size that was found, and its bounds
-size-told : (c : In-Sound) → network_found (of_file c.args.net.now) ≡ NetworkFound.Sound c.in-Sound.size
-size-told c = sym c.network_from-found.ensures ∙ c.in-Sound.is
-
-small : (c : In-Sound) → (c.in-Sound.size.places ≤ 64) × (c.in-Sound.size.legs ≤ 512) × (c.in-Sound.size.bands ≤ 4096)
-small c = sound-size c.args.net.now _ (sound-file c.args.net.now _ (size-told c))
-
-pub overflow_mul-count : goal.overflow_mul-count
-overflow_mul-count c = omega (arith, small (goal.at.overflow_mul-count c).In-Sound)
-
-pub overflow_add-count : goal.overflow_add-count
-overflow_add-count c = omega (arith, small (goal.at.overflow_add-count c).In-Sound)
-
-pub overflow_mul-count-in-Sound : goal.overflow_mul-count-in-Sound
-overflow_mul-count-in-Sound c = omega (arith, small (goal.at.overflow_mul-count-in-Sound c).In-Sound)
-
-pub overflow_add-count-in-Sound : goal.overflow_add-count-in-Sound
-overflow_add-count-in-Sound c = omega (arith, small (goal.at.overflow_add-count-in-Sound c).In-Sound)
+pub returns-in_err-size : goal.returns-in_err-size
+returns-in_err-size c = search rules
 
 pub returns-then-room-count : goal.returns-then-room-count
-returns-then-room-count c = reads_short _ _ _ (size-told (goal.at.returns-then-room-count c).In-Sound) c.if-room-count.true
+returns-then-room-count c = reads_short _ _ _ (sym c.network_from.ensures ∙ c.in_ok-size.was) c.if-room-count.true
 
-pub list_network-requires : goal.list_network-requires
-list_network-requires c = (size-told (goal.at.list_network-requires c).In-Sound, c.if-room-count.false)
+pub returns : goal.returns
+returns c = reads-done _ _ _ (sym c.network_from.ensures ∙ c.in_ok-size.was) _ _ refl c.if-room-count.false c.list_network.ensures
 
-pub returns-else-room-count : goal.returns-else-room-count
-returns-else-room-count c = reads-done _ _ _ (size-told (goal.at.returns-else-room-count c).In-Sound) _ _ refl c.if-room-count.false c.list_network.ensures
+-- how large the network can be
+small : (net : List ℕ) (size : Size) → network_found (of_file net) ≡ Ok size → (size.places ≤ 64) × (size.legs ≤ 512) × (size.bands ≤ 4096)
+small net size e = sound-size net size (sound-file net size e)
 
-pub overflow_cast-length : goal.overflow_cast-length
-overflow_cast-length c = omega (arith, small (goal.at.overflow_cast-length c).In-Sound)
+pub overflow_mul-count : goal.overflow_mul-count
+overflow_mul-count c = omega (arith, small c.args.net.now c.in_ok-size.size (sym c.network_from.ensures ∙ c.in_ok-size.was))
 
-pub returns-in-Refused : goal.returns-in-Refused
-returns-in-Refused c = reads-refused _ _ _ (sym c.network_from-found.ensures ∙ c.in-Refused.is)
+pub overflow_add-count : goal.overflow_add-count
+overflow_add-count c = omega (arith, small c.args.net.now c.in_ok-size.size (sym c.network_from.ensures ∙ c.in_ok-size.was))
+
+pub overflow_mul-count-2 : goal.overflow_mul-count-2
+overflow_mul-count-2 c = omega (arith, small c.args.net.now c.in_ok-size.size (sym c.network_from.ensures ∙ c.in_ok-size.was))
+
+pub overflow_add-count-2 : goal.overflow_add-count-2
+overflow_add-count-2 c = omega (arith, small c.args.net.now c.in_ok-size.size (sym c.network_from.ensures ∙ c.in_ok-size.was))
+
+pub overflow_cast-result : goal.overflow_cast-result
+overflow_cast-result c = omega (arith, small c.args.net.now c.in_ok-size.size (sym c.network_from.ensures ∙ c.in_ok-size.was))

@@ -13,8 +13,8 @@ returns-then-fill-eq0 c =
     let at = c.args.at in
     rw (eq-eqb (length file) ((at + 7) / 8) c.if-file-at.false, c.if-fill-eq0.true, field-none)
 
-pub returns : goal.returns
-returns c =
+pub returns-else-fill-eq0 : goal.returns-else-fill-eq0
+returns-else-fill-eq0 c =
     let file = c.args.file.now in
     let at = c.args.at in
     rw (eq-eqb (length file) ((at + 7) / 8) c.if-file-at.false, c.field.ensures)

@@ -1,17 +1,10 @@
--- `rows::lower_row`: nothing to lower and the table stays; or the lowered row is put back.
-use Rattle.rows.proofs.Wholes.{lowered-row, unlowered-row, row-length}
+-- `rows::lower_row`: the lowered row is put back.
+use Rattle.rows.proofs.Wholes.{lowered-row, row-length}
 use Prim.Native.Nat.{◌+◌, ◌-◌, ◌*◌, ◌≤◌}
 use native.Mathlib.Omega.{arith}
 use mathlib.Core.Path.{◌≡◌, ◌∙◌}
 use lib.ListN.{length}
 use Rattle.rows.proofs.lower_row.Goals as goal
-
-pub returns-then-first-until : goal.returns-then-first-until
-returns-then-first-until c =
-    let a = c.args in
-    let size : a.p * a.w + a.w - a.p * a.w ≡ a.w = omega arith in
-    let s = rw size at c.first_lower-first.ensures in
-    unlowered-row a.cells.now a.row.now a.w a.p a.from a.until a.time a.add c.first_lower-first.result (omega arith) s
 
 pub returns : goal.returns
 returns c =
@@ -19,6 +12,6 @@ returns c =
     let size : a.p * a.w + a.w - a.p * a.w ≡ a.w = omega arith in
     let fits : a.p * a.w + a.w ≤ length a.cells.now = omega arith in
     let all = row-length a.cells.now a.w a.p fits in
-    let s = rw size at c.first_lower-first.ensures in
+    let s = rw size at c.in-Some.ensures in
     let l = rw size at c.lower.ensures in
-    rw size (lowered-row a.cells.now a.w a.p fits c.lower.new.part (l.long ∙ all) a.row.now a.from a.until a.time a.add c.first_lower-first.result (omega arith) s (omega (arith, s.within.1)) l)
+    rw size (lowered-row a.cells.now a.w a.p fits c.lower.new.part (l.long ∙ all) a.row.now a.from a.until a.time a.add c.in-Some.first (omega arith) s.1 s.0 l)

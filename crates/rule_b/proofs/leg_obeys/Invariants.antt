@@ -8,7 +8,7 @@ use Rattle.rule_b.proofs.leg_obeys.Given as goal
 -- the loop does not use earliest: some window from there to latest is what it walks in
 abbrev pub invariant-loop-departure : goal.invariant-loop-departure
 invariant-loop-departure l =
-    (earliest : ℕ) × Walking l.sheet (leg_at l.net l.leg) l.from l.to (window earliest l.latest.0) l.i l.j l.tolls l.departure.0 × (l.time.0 ≡ (leg_at l.net l.leg).time.0) × LegThere l.net l.leg l.count
+    (earliest : ℕ) × Walking l.sheet (leg_at l.net l.leg) l.from l.to (window earliest l.window.latest.0) l.i l.j l.tolls l.departure.0 × (l.time.0 ≡ (leg_at l.net l.leg).time.0) × LegThere l.net l.leg l.count
 
 abbrev pub decreases-loop-departure : goal.decreases-loop-departure
 decreases-loop-departure l =

@@ -12,18 +12,6 @@ returns-then-count-k c =
     let a = c.args in
     sym (start_none (leg_at a.net.now a.leg) a.k (omega (arith, c.requires.count_is)))
 
-pub overflow_add-leg : goal.overflow_add-leg
-overflow_add-leg c = omega (arith, c.requires.near)
-
-pub overflow_mul-k : goal.overflow_mul-k
-overflow_mul-k c = omega (arith, c.requires.few)
-
-pub overflow_add-leg-2 : goal.overflow_add-leg-2
-overflow_add-leg-2 c = omega (arith, c.requires.near, c.requires.few)
-
-pub field-requires : goal.field-requires
-field-requires c = (omega arith, omega arith, omega (arith, c.requires.inside))
-
 pub returns : goal.returns
 returns c =
     let a = c.args in

@@ -1,53 +1,37 @@
 -- `rule_cards::leg_obeys`: with few steps by cards, else by the walk.
-use Prim.Native.Nat.{◌*◌, ◌≤◌}
+use Prim.Native.Nat.{◌≤◌}
 use native.Mathlib.Omega.{arith}
 use Rattle.sheet_file.specs.InPlace.{place_at, count_at}
-use Rattle.sheet_file.specs.Window.{window}
+use Rattle.sheet_file.specs.Window.{of_window}
 use Rattle.rule_cards.proofs.Legs.{place-ready, joined}
+use Rattle.rule_cards.proofs.leg_obeys.Goals.{Else-max-gt-STEPS}
 use Rattle.rule_cards.proofs.leg_obeys.Goals as goal
 
-pub returns-then-most-gt-STEPS : goal.returns-then-most-gt-STEPS
-returns-then-most-gt-STEPS c = c.leg_obeys.ensures
+-- both places have few steps
+i-few : (c : Else-max-gt-STEPS) → count_at c.args.sheet.now c.args.from.bit ≤ 16
+i-few c = omega (arith, c.max.ensures, c.if-max-gt-STEPS.false, c.field-steps.ensures)
 
-pub returns : goal.returns
-returns c =
-    let s = c in
-    let a = s.args in
-    let h = s.requires in
-    let steps = c.field-steps in
-    let others = c.field-others in
-    let most = c.most.ensures in
-    let i-few : count_at a.sheet.now a.i ≤ 16 = omega (arith, most.0, c.if-most-gt-STEPS.false, steps.ensures) in
-    let j-few : count_at a.sheet.now a.j ≤ 16 = omega (arith, most.1, c.if-most-gt-STEPS.false, others.ensures) in
-    let q = window a.earliest.0 a.latest.0 in
-    c.cards_obey.ensures (place_at a.sheet.now a.i) (place_at a.sheet.now a.j)
-    (joined q a.sheet.now a.i a.j h.1.from_place.steps h.1.to_place.steps a.minutes.now a.prices.now (16 * a.from) (16 * a.to) steps.result
-    (h.6 i-few) (h.7 j-few) steps.ensures)
-
-pub field-steps-requires : goal.field-steps-requires
-field-steps-requires c = (omega arith, omega arith, omega (arith, c.requires.1.from_place.inside))
-
-pub field-others-requires : goal.field-others-requires
-field-others-requires c = (omega arith, omega arith, omega (arith, c.requires.1.to_place.inside))
-
-pub leg_obeys-requires : goal.leg_obeys-requires
-leg_obeys-requires c = (c.requires.0, c.requires.1)
+j-few : (c : Else-max-gt-STEPS) → count_at c.args.sheet.now c.args.to.bit ≤ 16
+j-few c = omega (arith, c.max.ensures, c.if-max-gt-STEPS.false, c.field-others.ensures)
 
 pub cards_obey-requires : goal.cards_obey-requires
 cards_obey-requires c =
-    let s = c in
-    let a = s.args in
-    let h = s.requires in
-    let steps = c.field-steps in
-    let others = c.field-others in
-    let most = c.most.ensures in
-    let i-few : count_at a.sheet.now a.i ≤ 16 = omega (arith, most.0, c.if-most-gt-STEPS.false, steps.ensures) in
-    let j-few : count_at a.sheet.now a.j ≤ 16 = omega (arith, most.1, c.if-most-gt-STEPS.false, others.ensures) in
-    let q = window a.earliest.0 a.latest.0 in (
+    let a = c.args in
+    let h = c.requires in
+    let q = of_window a.window in
+    let few = (goal.at.cards_obey-requires c).Else-max-gt-STEPS in (
       h.0,
       h.1.order,
-      place-ready q a.sheet.now a.i h.1.from_place.steps a.minutes.now a.prices.now (16 * a.from) (h.6 i-few) (omega (arith, h.2)) (omega (arith, h.2, h.4)) (omega (arith, h.2, h.5)),
-      place-ready q a.sheet.now a.j h.1.to_place.steps a.minutes.now a.prices.now (16 * a.to) (h.7 j-few) (omega (arith, h.3)) (omega (arith, h.3, h.4)) (omega (arith, h.3, h.5)),
-      omega (arith, most.0, c.if-most-gt-STEPS.false),
+      place-ready q a.sheet.now a.from h.1.from_place.steps h.2 (i-few few),
+      place-ready q a.sheet.now a.to h.1.to_place.steps h.3 (j-few few),
+      omega (arith, c.max.ensures, c.if-max-gt-STEPS.false),
       h.1.end,
     )
+
+pub returns : goal.returns
+returns c =
+    let a = c.args in
+    let h = c.requires in
+    let few = (goal.at.returns c).Else-max-gt-STEPS in
+    c.cards_obey.ensures (place_at a.sheet.now a.from.bit) (place_at a.sheet.now a.to.bit)
+    (joined (of_window a.window) a.sheet.now a.from a.to h.1.from_place.steps h.1.to_place.steps h.2 h.3 (i-few few) (j-few few) c.field-steps.result c.field-steps.ensures)

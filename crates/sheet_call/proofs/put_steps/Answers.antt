@@ -16,9 +16,6 @@ put_step-requires c =
       omega arith,
     )
 
-pub loop-column-smaller : goal.loop-column-smaller
-loop-column-smaller c = omega arith
-
 pub loop-column-preserved : goal.loop-column-preserved
 loop-column-preserved c =
     let l = c.loop-column in
@@ -30,13 +27,10 @@ loop-column-preserved c =
           c.loop-column-test.true w.if-cost-was.false)
     ]
 
-pub shape_of-out : goal.shape_of-out
-shape_of-out c = c.loop-column.invariant.long
-
 pub returns : goal.returns
 returns c =
     let l = c.loop-column in
     let a = c.args in (
-      counting-done a.row.now l.was l.count l.column l.invariant.counting c.loop-column-test.false,
-      putting-done a.row.now a.earliest.0 a.out.now a.at l.out l.was l.count l.column l.invariant c.loop-column-test.false,
+      counting-done a.row.now l.was l.count l.column l.invariant.counting (omega arith),
+      putting-done a.row.now a.earliest.0 a.out.now a.at l.out l.was l.count l.column l.invariant (omega arith),
     )

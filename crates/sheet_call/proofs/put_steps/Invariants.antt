@@ -1,10 +1,5 @@
-use Prim.Native.Nat.{◌-◌}
-use lib.ListN.{length}
 use Rattle.sheet_call.proofs.Turns.{Putting}
 use Rattle.sheet_call.proofs.put_steps.Given as goal
 
 abbrev pub invariant-loop-column : goal.invariant-loop-column
 invariant-loop-column l = Putting l.row l.earliest.0 l.initial.out l.at l.out l.was l.count l.column
-
-abbrev pub decreases-loop-column : goal.decreases-loop-column
-decreases-loop-column l = length l.row - l.column

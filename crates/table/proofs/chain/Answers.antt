@@ -1,57 +1,28 @@
 -- `table::chain`: the legs below l are chained.
-use Rattle.chart.proofs.Net.{few_legs, charted}
+use Rattle.table.proofs.Tariffs.{few-legs}
 use Rattle.table.proofs.Chaining.{chained-none, from-few, chain_more}
 use native.Mathlib.Omega.{arith}
-use mathlib.Core.Path.{◌≡◌, ap}
-use lib.ListN.{length, length-set}
+use mathlib.Core.Path.{refl}
+use lib.ListN.{length-set}
 use Rattle.table.proofs.chain.Goals as goal
 
-pub returns : goal.returns
-returns c =
-    let l = c.loop-l in
-    let all : l.l ≡ c.args.size.legs = omega arith in
-    rw (← all) l.invariant.3
-
 pub loop-l-init : goal.loop-l-init
-loop-l-init c = (omega arith, ap length c.requires.2, c.requires.3, chained-none _ _ _ c.requires.2)
+loop-l-init c = (refl, refl, chained-none _ _ _ refl)
 
-pub offset_bounds-chart-l : goal.offset_bounds-chart-l
-offset_bounds-chart-l c =
-    let start = c in
-    omega (arith, few_legs start.args.net.now start.args.size start.requires.0)
+pub bounds-chains-from : goal.bounds-chains-from
+bounds-chains-from c = from-few c.args.tariff.now c.loop-l.l c.loop-l-test.true c.leg-leg.result c.leg-leg.ensures
 
-pub bounds-chart-l : goal.bounds-chart-l
-bounds-chart-l c =
-    let start = c in
-    omega (arith, few_legs start.args.net.now start.args.size start.requires.0)
+pub offset_bounds-chains-l : goal.offset_bounds-chains-l
+offset_bounds-chains-l c = omega (arith, few-legs c.args.tariff.now)
 
-pub leg_at-leg-requires : goal.leg_at-leg-requires
-leg_at-leg-requires c =
-    let start = c in
-    (charted start.args.net.now start.args.size start.requires.0 start.args.chart.now start.requires.1).near c.loop-l.l
-
-pub bounds-last-from : goal.bounds-last-from
-bounds-last-from c =
-    let start = c in
-    omega (arith, from-few start.args.net.now start.args.size start.requires.0 start.args.chart.now start.requires.1 c.loop-l.l c.loop-l-test.true c.leg_at-leg.result c.leg_at-leg.ensures)
-
-pub offset_bounds-before-l : goal.offset_bounds-before-l
-offset_bounds-before-l c =
-    let start = c in
-    omega (arith, few_legs start.args.net.now start.args.size start.requires.0)
-
-pub bounds-before-l : goal.bounds-before-l
-bounds-before-l c =
-    let start = c in
-    omega (arith, few_legs start.args.net.now start.args.size start.requires.0)
-
-pub bounds-last-from-in-loop-l : goal.bounds-last-from-in-loop-l
-bounds-last-from-in-loop-l c =
-    let start = c in
-    omega (arith, from-few start.args.net.now start.args.size start.requires.0 start.args.chart.now start.requires.1 c.loop-l.l c.loop-l-test.true c.leg_at-leg.result c.leg_at-leg.ensures)
+pub bounds-chains-l : goal.bounds-chains-l
+bounds-chains-l c = omega (arith, few-legs c.args.tariff.now)
 
 pub loop-l-preserved : goal.loop-l-preserved
 loop-l-preserved c =
-    let start = c in
     let l = c.loop-l in
-    (omega arith, simp length-set l.invariant.1, simp length-set l.invariant.2, chain_more start.args.net.now start.args.size start.requires.0 start.args.chart.now start.requires.1 c.loop-l.l c.loop-l-test.true c.leg_at-leg.result c.leg_at-leg.ensures l.last l.before l.invariant.1 l.invariant.2 l.invariant.3)
+    rw (c.replace.ensures.value, c.replace.ensures.after) (
+      simp length-set l.invariant.0,
+      simp length-set l.invariant.1,
+      chain_more c.args.tariff.now l.l c.loop-l-test.true c.leg-leg.result c.leg-leg.ensures l.chains.last l.chains.before l.invariant.0 l.invariant.1 l.invariant.2,
+    )

@@ -1,28 +1,34 @@
--- `table::fill`: chart, chains, outset and sweep together.
+-- `table::fill`: tariff, chains, outset and sweep together.
 use lib.ListN.{replicate}
 use Rattle.table.proofs.Filling.{may-ask, start_fits, start-low, fill_begins, fill_done, outset-long}
-use native.Mathlib.Omega.{arith}
-use mathlib.Core.Path.{refl, ◌∙◌}
+use mathlib.Core.Path.{◌≡◌, refl, ◌∙◌}
 use Rattle.table.proofs.fill.Goals as goal
 
 pub returns : goal.returns
 returns c =
-    let start = c in
+    let a = c.args in
     let long = c.sweep.auto.cells ∙ c.outset.auto.cells in
-    fill_done start.args.net.now start.args.size start.args.start start.args.earliest start.args.latest start.args.cells.now start.requires c.sweep.new.cells _ long c.sweep.ensures
+    let same : c.of-tariff.result.net.now ≡ a.net.now = cc in
+    fill_done a.net.now a.size a.start a.earliest a.latest a.cells.now c.requires c.sweep.new.cells c.sweep.new.low long (rw same at c.sweep.ensures)
+
+pub invariant_of-roads-clause-asked : goal.invariant_of-roads-clause-asked
+invariant_of-roads-clause-asked c =
+    let a = c.args in
+    rw c.of-tariff.ensures.1 (may-ask a.net.now a.size a.start a.earliest a.latest a.cells.now c.requires)
 
 pub outset-requires : goal.outset-requires
 outset-requires c =
-    let start = c in
-    (start_fits start.args.net.now start.args.size start.args.start start.args.earliest start.args.latest start.args.cells.now start.requires c.width.result c.width.ensures, start-low start.args.net.now start.args.size start.args.start start.args.earliest start.args.latest start.args.cells.now start.requires)
+    let a = c.args in (
+      start_fits a.net.now a.size a.start a.earliest a.latest a.cells.now c.requires c.width.result c.width.ensures,
+      start-low a.net.now a.size a.start a.earliest a.latest a.cells.now c.requires,
+    )
 
 pub sweep-requires : goal.sweep-requires
 sweep-requires c =
-    let start = c in
+    let a = c.args in
     let o = c.outset in
-    let f = start.requires in (
-      record { sound = f.sound; asked = may-ask start.args.net.now start.args.size start.args.start start.args.earliest start.args.latest start.args.cells.now start.requires; charted = c.chart-chart.ensures; chained = c.chain.ensures },
-      omega (arith, f.window, f.clock),
-      outset-long start.args.start c.width.result start.args.cells.now o.new.cells (replicate 64 0) o.new.low o.ensures refl,
-      fill_begins start.args.net.now start.args.size start.args.start start.args.earliest start.args.latest start.args.cells.now start.requires c.width.result o.new.cells (replicate 64 0) o.new.low c.width.ensures refl o.ensures,
+    let f = c.requires in
+    let same : c.of-tariff.result.net.now ≡ a.net.now = cc in (
+      outset-long a.start c.width.result a.cells.now o.new.cells (replicate 64 0) o.new.low o.ensures refl,
+      rw same (fill_begins a.net.now a.size a.start a.earliest a.latest a.cells.now f c.width.result o.new.cells (replicate 64 0) o.new.low c.width.ensures refl o.ensures),
     )

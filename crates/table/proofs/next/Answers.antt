@@ -1,14 +1,9 @@
--- `table::next`: ahead, behind, or none.
-use Rattle.table.proofs.Visits.{next-behind, next-none}
+-- `table::next`: the first behind, where there is none ahead.
+use Rattle.table.proofs.Visits.{next-behind}
 use native.Mathlib.Omega.{arith}
 use Rattle.table.proofs.next.Goals as goal
 
-pub returns-then-behind-p : goal.returns-then-behind-p
-returns-then-behind-p c =
+pub returns-in-None : goal.returns-in-None
+returns-in-None c =
     let a = c.args in
-    next-behind a.low.now a.p a.places a.w c.first_new-ahead.result c.first_new-ahead.ensures c.first_new-behind.result c.first_new-behind.ensures (omega arith) (omega arith) (omega arith)
-
-pub returns : goal.returns
-returns c =
-    let a = c.args in
-    next-none a.low.now a.p a.places a.w c.first_new-ahead.result c.first_new-ahead.ensures c.first_new-behind.result c.first_new-behind.ensures (omega arith) (omega arith) (omega arith)
+    next-behind a.low.now a.p _ a.places a.w (omega arith) c.requires.0 c.in-None.ensures c.first_new-in-None.result c.first_new-in-None.ensures

@@ -8,12 +8,12 @@ pub returns : goal.returns
 returns c =
     let l = c.loop-k in
     let all : l.k ≡ c.args.leg.count = omega arith in
-    rw all at l.invariant.1
+    rw all at l.invariant
 
 pub loop-k-init : goal.loop-k-init
 loop-k-init c =
     let a = c.args in
-    (omega arith, adds-no-bands a.out.now a.at a.leg.bands)
+    adds-no-bands a.out.now a.at a.leg.bands
 
 pub overflow_mul-band : goal.overflow_mul-band
 overflow_mul-band c = omega (arith, (c.requires.0.bands_small c.loop-k.k).0)
@@ -26,14 +26,14 @@ overflow_add-band c =
 pub put-requires : goal.put-requires
 put-requires c =
     let small = c.requires.0.bands_small c.loop-k.k in
-    (omega arith, omega arith, omega (arith, small.0, small.1), omega (arith, c.requires.2, c.loop-k.invariant.1.same_length))
+    (omega arith, omega arith, omega (arith, small.0, small.1), omega (arith, c.requires.2, c.loop-k.invariant.same_length))
 
 pub loop-k-preserved : goal.loop-k-preserved
 loop-k-preserved c =
     let a = c.args in
     let l = c.loop-k in
     let small = c.requires.0.bands_small l.k in
-    (omega arith, adds-band l.k a.leg.bands small.0 small.1 (omega arith) l.invariant.1 c.put.ensures)
+    adds-band l.k a.leg.bands small.0 small.1 (omega arith) l.invariant c.put.ensures
 
 pub shape_of-out : goal.shape_of-out
-shape_of-out c = c.loop-k.invariant.1.same_length
+shape_of-out c = c.loop-k.invariant.same_length

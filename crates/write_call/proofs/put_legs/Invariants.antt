@@ -1,10 +1,6 @@
 -- `write_call::put_legs`: the legs passed are put, and the rest is still to be read.
-use Prim.Native.Nat.{◌-◌, ◌≤◌}
 use Rattle.write_call.proofs.Half.{Half}
 use Rattle.write_call.proofs.put_legs.Given as goal
 
 abbrev pub invariant-loop-k : goal.invariant-loop-k
-invariant-loop-k l = (l.k ≤ l.legs) × Half l.list l.places l.legs l.k l.place l.at l.initial.out l.out
-
-abbrev pub decreases-loop-k : goal.decreases-loop-k
-decreases-loop-k l = l.legs - l.k
+invariant-loop-k l = Half l.list l.places l.legs l.k l.place l.at l.initial.out l.out

@@ -1,9 +1,0 @@
--- `rows::least`: written out, so that a wrong program is refused here.
-use native.Mathlib.Omega.{arith}
-use Rattle.rows.proofs.least.Goals as goal
-
-pub returns-then-a-b : goal.returns-then-a-b
-returns-then-a-b c = omega arith
-
-pub returns-else-a-b : goal.returns-else-a-b
-returns-else-a-b c = omega arith

@@ -1,0 +1,23 @@
+// A filled table: a row of w cells for each place.
+ghost use Rattle.std.specs.Prelude.{◌≡◌, ◌<◌};
+ghost use Rattle.rows.specs.Whole.{row_of};
+ghost use Rattle.sheet_call.specs.Parts.{Table};
+
+#[derive(Clone, Copy)]
+pub struct Filled<'a> {
+    pub cells: &'a [u32],
+    pub w: usize,
+    pub places: u32,
+    ghost table: { Table cells.now w places },
+}
+
+impl<'a> Filled<'a> {
+    // The row of a place.
+    pub fn row(&self, p: u32) -> &'a [u32]
+        requires { p < self.now.places }
+        ensures { result.now ≡ row_of self.now.cells.now self.now.w p }
+    {
+        let start = p as usize * self.w;
+        &self.cells[start..start + self.w]
+    }
+}

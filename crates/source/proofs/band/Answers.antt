@@ -1,8 +1,0 @@
-use Rattle.source.proofs.Fetch.{list-band}
-use Rattle.source.proofs.band.Goals as goal
-
-pub returns-in-File : goal.returns-in-File
-returns-in-File c = rw c.in-File.is c.band_in_file.ensures
-
-pub returns-in-Numbers : goal.returns-in-Numbers
-returns-in-Numbers c = rw c.in-Numbers.is (list-band _ _ _ c.in_list.ensures)
