@@ -16,9 +16,10 @@ use Rattle.card.specs.declared.Card.{Card}
 use Rattle.card.specs.Card.{slot, never, Written, Kept, Carded}
 use Rattle.card.specs.One.{begins}
 use Rattle.card.proofs.Filling.{carded, slot-first}
-use Rattle.rule_cards.specs.declared.LegCards.{LegCards}
+use Rattle.rule_cards.specs.declared.leg_cards.LegCards.{LegCards}
 use Rattle.rule_cards.specs.declared.Place.{Place}
-use Rattle.rule_cards.specs.Cards.{Slots, CardsOf, RuleIf, RuleAtAll, Joins, OnCard}
+use Rattle.rule_cards.specs.Fit.{Slots}
+use Rattle.rule_cards.specs.Cards.{CardsOf, RuleIf, RuleAtAll, AllTested, Joins, OnCard}
 use Rattle.rule_cards.proofs.Enough.{enough}
 use Rattle.rule_cards.proofs.Held.{ready, place-ordered, holds-steps, step-on-card, step-slot, bands-ordered, holds-tolls, band-on-card, band-slot}
 
@@ -44,7 +45,7 @@ bands-ready net at order c card long long' = record {
 module _ (net : List ℕ) (at : ℕ) (order : InOrder (leg_at net at)) (c : LegCards) (steps bands : ℕ) (i j : List Step)
     (h : Joins c.from c.to steps i j) (bands-is : bands ≡ (leg_at net at).count) (time_is : c.time.0 ≡ field net (at + 12) 12)
     (card : Carded net (at + 28) 16 (leg_at net at).count (length c.bands.minutes.now) c.bands.minutes.now c.bands.prices.now 0) where
-  pub cards-of : CardsOf c steps bands i j (leg_at net at)
+  cards-of : CardsOf c steps bands i j (leg_at net at)
   cards-of = record {
     i_held = h.i_held;
     j_held = h.j_held;
@@ -58,13 +59,16 @@ module _ (net : List ℕ) (at : ℕ) (order : InOrder (leg_at net at)) (c : LegC
   band-begins : (k : ℕ) → k < (leg_at net at).count → begins c.bands k ≡ (get_or (leg_at net at).bands k no_band).start.0
   band-begins k low = sym (band-slot net at order c.bands card k low ∙ slot-first c.bands.minutes.now k)
 
-  pub leg-tested : (b : Bool) → Is b (RuleAtAll c.from c.bands c.latest.0 steps bands i j (leg_at net at)) → Is b (RuleB c.latest.0 (leg_at net at) i j)
-  leg-tested true t =
+  all-tested : (b : Bool) → Is b (RuleAtAll c.from c.bands c.latest.0 steps bands i j (leg_at net at)) → Is b (RuleB c.latest.0 (leg_at net at) i j)
+  all-tested true t =
       enough h.window c.latest.0 (leg_at net at) i j h.falls
       (λ m is. let (k, low, e) = h.all m is in subst (λ (n : ℕ). RuleIf c.latest.0 (leg_at net at) i j n) (sym e) (t.at_steps k low))
       (λ k low. subst (λ (n : ℕ). RuleIf c.latest.0 (leg_at net at) i j n) (band-begins k low) (t.at_bands k (omega (arith, bands-is))))
-  leg-tested false t =
+  all-tested false t =
       λ rule. t (record { at_steps = λ k l d. rule (begins c.from k) d; at_bands = λ k l d. rule (begins c.bands k) d })
+
+  pub leg-tested : (b : Bool) → AllTested c steps bands b → Is b (RuleB c.latest.0 (leg_at net at) i j)
+  leg-tested b t = all-tested b (t i j (leg_at net at) cards-of)
 
 -- a place's steps on its card
 pub on-card : (s : List ℕ) (p : Place) → OnCard s p → count_at s p.bit ≤ 16

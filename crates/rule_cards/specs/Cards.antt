@@ -11,24 +11,11 @@ use Rattle.plan.specs.Network.{Minute, Query}
 use Rattle.plan.specs.Sheet.{Step, value, Steps}
 use Rattle.card.specs.declared.Card.{Card}
 use Rattle.card.specs.Card.{never}
-use Rattle.card.specs.One.{Ready, ShownOn, begins, cents_of}
+use Rattle.card.specs.One.{ShownOn, begins, cents_of}
 use Rattle.rule_b.specs.Rule.{Is, RuleAt, RuleB}
-use Rattle.rule_cards.specs.declared.LegCards.{LegCards}
+use Rattle.rule_cards.specs.declared.leg_cards.LegCards.{LegCards}
 use Rattle.rule_cards.specs.declared.Place.{Place}
 use Rattle.rule_cards.specs.Laid.{Laid}
-
--- a card of so many slots can be looked at
-pub record Slots (c : Card) (size : ℕ) : Type 0 where
-  pub ready : Ready c
-  pub size_is : length c.minutes.now ≡ size
-
--- the cards of both places and of the leg's bands can be looked at, and the driving time and the latest minute are minutes
-pub record Fit (c : LegCards) : Type 0 where
-  pub from_ready : Slots c.from 16
-  pub to_ready : Slots c.to 16
-  pub bands_ready : Slots c.bands 8
-  pub time_within : c.time.0 ≤ 2879
-  pub latest_within : c.latest.0 ≤ 2879
 
 -- what a place's card shows is the value that these steps have
 abbrev pub HoldsSteps : Card → List Step → Type 0

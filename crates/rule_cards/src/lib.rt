@@ -9,13 +9,16 @@ ghost use Rattle.card.specs.Card.{Blank};
 ghost use Rattle.sheet_file.specs.InPlace.{place_at, count_at};
 ghost use Rattle.sheet_file.specs.Window.{of_window};
 ghost use Rattle.rule_cards.specs.Laid.{Laid, LaidOut, Inside};
-ghost use Rattle.rule_cards.specs.Cards.{Slots, Fit, StepTested, BandTested, AllTested, LegTested, OnCard};
+ghost use Rattle.rule_cards.specs.Fit.{Slots};
+ghost use Rattle.rule_cards.specs.Cards.{StepTested, BandTested, AllTested, LegTested, OnCard};
 
 mod laid_sheet;
+mod leg_cards;
 
 use card::Card;
 pub use laid_sheet::LaidSheet;
 use leg::{Cents, Minute};
+use leg_cards::LegCards;
 use sheet_file::Window;
 
 // How many steps a place's card has room for.
@@ -31,20 +34,10 @@ pub struct Place<'a> {
     pub card: Card<'a>,
 }
 
-// What a leg is judged by: the cards of its two places, the card of its bands, its driving time, and the latest minute.
-#[derive(Clone, Copy)]
-pub struct LegCards<'a> {
-    pub from: Card<'a>,
-    pub to: Card<'a>,
-    pub bands: Card<'a>,
-    pub time: Minute,
-    pub latest: Minute,
-}
-
 impl<'a> LegCards<'a> {
     // The rule at step k of the place that the leg leaves.
     fn step_obeys(self, k: usize) -> bool
-        requires { Fit self × (k < 16) }
+        requires { k < 16 }
         ensures { StepTested self.entry k result }
     {
         let departure = self.from.minutes[k];
@@ -60,7 +53,7 @@ impl<'a> LegCards<'a> {
 
     // The rule where band k starts. Not one with the test of a step: each is spared the look at the card that its departure stands on.
     fn band_obeys(self, k: usize) -> bool
-        requires { Fit self × (k < 8) }
+        requires { k < 8 }
         ensures { BandTested self.entry k result }
     {
         let departure = self.bands.minutes[k];
@@ -79,7 +72,7 @@ impl<'a> LegCards<'a> {
 
     // The rule at the first `steps` steps of the place that the leg leaves, and where each of the leg's first `bands` bands starts.
     fn obey(self, steps: usize, bands: usize) -> bool
-        requires { Fit self × (steps ≤ 16) × (bands ≤ 8) }
+        requires { (steps ≤ 16) × (bands ≤ 8) }
         ensures { AllTested self.entry steps bands result }
     {
         for k in 0..steps {

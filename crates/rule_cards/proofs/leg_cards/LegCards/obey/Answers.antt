@@ -1,11 +1,11 @@
--- `rule_cards::LegCards::obey`: the rule holds at all steps and all band starts that were passed.
+-- `rule_cards::leg_cards::LegCards::obey`: the rule holds at all steps and all band starts that were passed.
 use Prim.Native.Nat.{ℕ}
 use native.Mathlib.Omega.{arith}
 use Rattle.card.specs.One.{begins}
 use Rattle.rule_b.proofs.Turn.{is_true, is_false}
 use Rattle.rule_cards.specs.Cards.{RuleIf}
 use Rattle.rule_cards.proofs.Departures.{one_more}
-use Rattle.rule_cards.proofs.LegCards.obey.Goals as goal
+use Rattle.rule_cards.proofs.leg_cards.LegCards.obey.Goals as goal
 
 pub returns-then-not-step_obeys : goal.returns-then-not-step_obeys
 returns-then-not-step_obeys c i j leg b =

@@ -6,8 +6,8 @@ use Rattle.plan.specs.Sheet.{Step}
 use Rattle.card.specs.declared.Card.{Card}
 use Rattle.card.specs.One.{begins}
 use Rattle.rule_cards.specs.Cards.{CardsOf, RuleIf}
-use Rattle.rule_cards.specs.declared.LegCards.{LegCards}
-use Rattle.rule_cards.proofs.LegCards.obey.Given as goal
+use Rattle.rule_cards.specs.declared.leg_cards.LegCards.{LegCards}
+use Rattle.rule_cards.proofs.leg_cards.LegCards.obey.Given as goal
 
 -- the rule holds where the first k slots of one of the cards begin
 abbrev pub Passed : LegCards → ℕ → ℕ → Card → ℕ → Type 0

@@ -1,0 +1,18 @@
+-- Cards that a leg can be judged by.
+use Rattle.std.specs.Prelude.{ℕ, ◌≤◌, ◌≡◌, length}
+use Rattle.plan.specs.Network.{Minute}
+use Rattle.card.specs.declared.Card.{Card}
+use Rattle.card.specs.One.{Ready}
+
+-- a card of so many slots can be looked at
+pub record Slots (c : Card) (size : ℕ) : Type 0 where
+  pub ready : Ready c
+  pub size_is : length c.minutes.now ≡ size
+
+-- the cards of both places and of the leg's bands can be looked at, and the driving time and the latest minute are minutes
+pub record Fit (from to bands : Card) (time latest : Minute) : Type 0 where
+  pub from_ready : Slots from 16
+  pub to_ready : Slots to 16
+  pub bands_ready : Slots bands 8
+  pub time_within : time ≤ 2879
+  pub latest_within : latest ≤ 2879
