@@ -21,16 +21,24 @@ number_of SheetFile = 13
 number_of Rules = 14
 number_of Loose = 15
 
+-- the number that comes back, where it is known which number goes with what was done
+abbrev pub number_by : {A : Type 0} → (A → ℕ) → Result A Refusal → ℕ
+number_by of (Ok done) = of done
+number_by of (Err why) = number_of why
+
+-- the length that comes back, likewise: 0 with a refusal
+abbrev pub length_by : {A : Type 0} → (A → ℕ) → Result A Refusal → ℕ
+length_by of (Ok done) = of done
+length_by of (Err why) = 0
+
 -- what a call that writes answers: a length, or a refusal
 abbrev pub Answer : Type 0
 Answer = Result ℕ Refusal
 
 -- the number that comes back: 0 is done
 abbrev pub answer_number : {A : Type 0} → Result A Refusal → ℕ
-answer_number (Ok done) = 0
-answer_number (Err why) = number_of why
+answer_number = number_by (λ done. 0)
 
 -- the length that comes back: what was written, and 0 with a refusal
 abbrev pub answer_length : Answer → ℕ
-answer_length (Ok n) = n
-answer_length (Err why) = 0
+answer_length = length_by (λ n. n)

@@ -1,9 +1,9 @@
 -- Document 01, "Numbers that come back", for the plan call and the sheet call, which write a file with 0 and with 10.
-use Rattle.std.specs.Prelude.{ℕ, Result, Ok, Err}
+use Rattle.std.specs.Prelude.{ℕ, Result, Ok}
 use Rattle.answer.specs.declared.Refusal.{Refusal}
 use Rattle.answer.specs.declared.Filed.{Filed}
 use Rattle.answer.specs.declared.Filed.TheVariants.{Plan, NoPlan}
-use Rattle.answer.specs.Numbers.{number_of}
+use Rattle.answer.specs.Numbers.{number_by, length_by}
 
 -- what they answer: a file and its length, or a refusal
 abbrev pub PlanAnswer : Type 0
@@ -17,14 +17,20 @@ plan_filed n = Ok (Plan n)
 abbrev pub none_filed : ℕ → PlanAnswer
 none_filed n = Ok (NoPlan n)
 
--- the number that comes back: 0 is done, 10 no feasible plan
-abbrev pub plan_number : PlanAnswer → ℕ
-plan_number (Ok (Plan n)) = 0
-plan_number (Ok (NoPlan n)) = 10
-plan_number (Err why) = number_of why
+-- 0 is done, 10 no feasible plan
+abbrev pub filed_number : Filed → ℕ
+filed_number (Plan n) = 0
+filed_number (NoPlan n) = 10
 
--- the length that comes back: that of the file, and 0 with any other refusal
+-- the length of the file, whatever it says
+abbrev pub filed_length : Filed → ℕ
+filed_length (Plan n) = n
+filed_length (NoPlan n) = n
+
+-- the number that comes back: that of the file, or of the refusal
+abbrev pub plan_number : PlanAnswer → ℕ
+plan_number = number_by filed_number
+
+-- the length that comes back: that of the file, and 0 with a refusal
 abbrev pub plan_length : PlanAnswer → ℕ
-plan_length (Ok (Plan n)) = n
-plan_length (Ok (NoPlan n)) = n
-plan_length (Err why) = 0
+plan_length = length_by filed_length

@@ -1,28 +1,28 @@
 // The answers of document 01: why a call refuses, and the paper's number for each reason.
 #![tactic(auto)]
 
-ghost use Rattle.std.specs.Prelude.{◌≡◌};
-ghost use Rattle.answer.specs.Numbers.{number_of, answer_number, answer_length};
-ghost use Rattle.answer.specs.Plans.{plan_number, plan_length};
+ghost use Rattle.std.specs.Prelude.{◌≡◌, ℕ};
+ghost use Rattle.answer.specs.Numbers.{number_of, number_by, length_by};
+ghost use Rattle.answer.specs.Plans.{filed_number, filed_length};
 
-// Why a call refuses, in the order of the paper's table.
+// Why a call refuses, with the paper's number for it.
 #[derive(Clone, Copy)]
 pub enum Refusal {
-    Short,
-    Edition,
-    Range,
-    Order,
-    Tail,
-    Query,
-    Window,
-    Cells,
-    Room,
-    NoPlan,
-    PlanFile,
-    Plan,
-    SheetFile,
-    Rules,
-    Loose,
+    Short = 1,
+    Edition = 2,
+    Range = 3,
+    Order = 4,
+    Tail = 5,
+    Query = 6,
+    Window = 7,
+    Cells = 8,
+    Room = 9,
+    NoPlan = 10,
+    PlanFile = 11,
+    Plan = 12,
+    SheetFile = 13,
+    Rules = 14,
+    Loose = 15,
 }
 
 // What a call that writes answers: the length of what it wrote, or why it refuses.
@@ -35,71 +35,97 @@ pub enum Filed {
     NoPlan(u32),
 }
 
-// What the plan call and the sheet call answer: "no plan" is a refusal by its number alone.
+// What the plan call and the sheet call answer. "No plan" comes back under a refusal's number, and is no refusal here: a file is written that says so.
 pub type PlanAnswer = Result<Filed, Refusal>;
 
 impl Refusal {
-    // The paper's number. A match, not the variants' own numbers: a wrong program that gives two refusals one number must stay one to refuse.
+    // The paper's number.
     pub fn number(self) -> u32
         ensures { result ≡ number_of self }
     {
+        self as u32
+    }
+}
+
+// What a call has done where it does not refuse: the number that says so, and the length of what it wrote.
+pub trait Done {
+    ghost number_is: { Self → ℕ };
+
+    ghost length_is: { Self → ℕ };
+
+    fn number(&self) -> u32
+        ensures { result ≡ number_is self.now };
+
+    fn length(&self) -> u32
+        ensures { result ≡ length_is self.now };
+}
+
+// The gate writes nothing.
+impl Done for () {
+    ghost number_is = { λ done. 0 };
+
+    ghost length_is = { λ done. 0 };
+
+    fn number(&self) -> u32 {
+        0 // accepted
+    }
+
+    fn length(&self) -> u32 {
+        0
+    }
+}
+
+// The read call and the write call hand back how much they wrote.
+impl Done for u32 {
+    ghost number_is = { λ written. 0 };
+
+    ghost length_is = { λ written. written };
+
+    fn number(&self) -> u32 {
+        0 // done
+    }
+
+    fn length(&self) -> u32 {
+        *self
+    }
+}
+
+// The plan call and the sheet call: a file that says "none" has a refusal's number, and a length all the same.
+impl Done for Filed {
+    ghost number_is = { filed_number };
+
+    ghost length_is = { filed_length };
+
+    fn number(&self) -> u32 {
         match self {
-            Refusal::Short => 1,
-            Refusal::Edition => 2,
-            Refusal::Range => 3,
-            Refusal::Order => 4,
-            Refusal::Tail => 5,
-            Refusal::Query => 6,
-            Refusal::Window => 7,
-            Refusal::Cells => 8,
-            Refusal::Room => 9,
-            Refusal::NoPlan => 10,
-            Refusal::PlanFile => 11,
-            Refusal::Plan => 12,
-            Refusal::SheetFile => 13,
-            Refusal::Rules => 14,
-            Refusal::Loose => 15,
+            Filed::Plan(_) => 0,
+            Filed::NoPlan(_) => Refusal::NoPlan.number(),
+        }
+    }
+
+    fn length(&self) -> u32 {
+        match self {
+            Filed::Plan(written) | Filed::NoPlan(written) => *written,
         }
     }
 }
 
 // The number that comes back.
-pub fn number<T: Drop>(answer: Result<T, Refusal>) -> u32
-    ensures { result ≡ answer_number answer }
+pub fn number<T: Done + Copy>(answer: Result<T, Refusal>) -> u32
+    ensures { result ≡ number_by T.number_is answer }
 {
     match answer {
-        Ok(_) => 0,
+        Ok(done) => done.number(),
         Err(why) => why.number(),
     }
 }
 
 // The length that comes back: a refusal wrote nothing.
-pub fn length(answer: Answer) -> u32
-    ensures { result ≡ answer_length answer }
+pub fn length<T: Done + Copy>(answer: Result<T, Refusal>) -> u32
+    ensures { result ≡ length_by T.length_is answer }
 {
     match answer {
-        Ok(written) => written,
+        Ok(done) => done.length(),
         Err(_) => 0, // nothing was written
-    }
-}
-
-// The number of a call that may say "no plan".
-pub fn plan_number(answer: PlanAnswer) -> u32
-    ensures { result ≡ plan_number answer }
-{
-    match answer {
-        Ok(Filed::Plan(_)) => 0,
-        Ok(Filed::NoPlan(_)) => 10,
-        Err(why) => why.number(),
-    }
-}
-
-// Its length: that of the file, whatever it says.
-pub fn plan_length(answer: PlanAnswer) -> u32
-    ensures { result ≡ plan_length answer }
-{
-    match answer {
-        Ok(Filed::Plan(written) | Filed::NoPlan(written)) => written,
-        Err(_) => 0,
     }
 }

@@ -1,61 +1,30 @@
--- Numbers stored byte by byte.
-use Prim.Native.Nat.{ℕ, ◌+◌, ◌-◌, ◌*◌, ◌/◌, ◌%◌, ◌^◌, ◌<◌}
-use native.Mathlib.Nat.{div-eq_of_lt, div-one, mod-lt, sub-zero, sub_self}
+-- A number stored as the library writes it.
+use Prim.Native.Nat.{ℕ, zero, suc, ◌+◌, ◌-◌, ◌*◌, ◌%◌, ◌^◌, ◌≤◌, ◌<◌}
+use native.Mathlib.Nat.{zero-add, mod-eq_of_lt, mod-lt}
 use native.Mathlib.Omega.{arith}
-use mathlib.Core.Path.{◌≡◌, refl, sym, ◌∙◌}
+use mathlib.Core.Path.{◌≡◌, sym, ap, ◌∙◌}
 use mathlib.Core.List.{List}
-use lib.ListN.{length, get_or, set, length-set}
-use lib.Seq.{get_or-set_same, get_or-set_other}
-use lib.Pow.{shr-shr}
+use lib.ListN.{get_or}
+use Rattle.std.specs.Int.{w64, to_be_bytes, bytes_high_first}
+use Rattle.std.proofs.lemmas.Nat.{from_be_bytes-to_be_bytes_8}
 use Rattle.bits.specs.Field.{field}
-use Rattle.bits.specs.Word.{Stored}
-use Rattle.bits.proofs.Fields.{field-none, field-same}
-use Rattle.bits.proofs.Bytes.{field-byte, bit-same, joined}
+use Rattle.bits.proofs.Fields.{part-last}
+use Rattle.bits.proofs.Bytes.{eight_bytes, moved}
 
--- nothing is stored yet
-pub stored-none : (s : List ℕ) (i : ℕ) → Stored s s i 0 0
-stored-none s i =
-    record {
-      same_length = refl;
-      bytes_before = λ j h. refl;
-      bytes_after = λ j h. refl;
-      holds = field-none s (8 * i);
-    }
+-- each byte of a number is below 256
+small : (k x j : ℕ) → get_or (bytes_high_first k x) j 0 < 256
+small zero x j = omega arith
+small (suc zero) x zero = mod-lt _ (omega arith)
+small (suc (suc k)) x zero = mod-lt _ (omega arith)
+small (suc k) x (suc j) = small k x j
 
--- one byte more
-pub stored_next : {s t : List ℕ} {i k x : ℕ} (b : ℕ) → Stored s t i k x → i + k < length t → b < 256 → Stored s (set t (i + k) b) i (k + 1) (x * 256 + b)
-stored_next {s} {t} {i} {k} {x} b h inside small =
-    let u = set t (i + k) b in
-    let same : get_or u (i + k) 0 ≡ b = get_or-set_same t (i + k) b 0 inside in
-    let before : field u (8 * i) (8 * k) ≡ x =
-    field-same u t (8 * i) (8 * k) (λ p from to. bit-same u t p (get_or-set_other t (i + k) (p / 8) b 0 (omega arith))) ∙ h.holds
-    in
-    let now-byte : b ≡ field u (8 * (i + k)) 8 = sym (field-byte u (i + k) (rw same small) ∙ same) in
-    let next : 8 * (k + 1) ≡ 8 * k + 8 = omega arith in
-    record {
-      same_length = length-set t (i + k) b ∙ h.same_length;
-      bytes_before = λ j below. get_or-set_other t (i + k) j b 0 (omega arith) ∙ h.bytes_before j below;
-      bytes_after = λ j above. get_or-set_other t (i + k) j b 0 (omega arith) ∙ h.bytes_after j (omega arith);
-      holds = rw next (sym (joined u i k 8 (sym before) now-byte));
-    }
-
--- the next byte of a number joins those above it
-pub next-byte : (x e : ℕ) → x / 2 ^ (e + 8) * 256 + x / 2 ^ e % 256 ≡ x / 2 ^ e
-next-byte x e =
-    let d : x / 2 ^ (e + 8) ≡ x / 2 ^ e / 256 = sym (shr-shr x e 8) in
-    omega arith
-
--- a number is stored byte by byte, its high bytes first: none yet, one more, all
-pub store-start : (s : List ℕ) (i n x : ℕ) → x < 2 ^ (8 * n) → Stored s s i 0 (x / 2 ^ (8 * (n - 0)))
-store-start s i n x h = rw (sub-zero n, div-eq_of_lt h) (stored-none s i)
-
-pub store_step : {s t : List ℕ} {i : ℕ} (n k x : ℕ) → Stored s t i k (x / 2 ^ (8 * (n - k))) → k < n → i + k < length t
-    → Stored s (set t (i + k) (x / 2 ^ (8 * (n - 1 - k)) % 256)) i (k + 1) (x / 2 ^ (8 * (n - (k + 1))))
-store_step n k x h more inside =
-    let e = 8 * (n - 1 - k) in
-    let this : 8 * (n - k) ≡ e + 8 = omega arith in
-    let then : 8 * (n - (k + 1)) ≡ e = omega arith in
-    rw then (rw (next-byte x e) at (stored_next (x / 2 ^ e % 256) (rw this at h) inside (mod-lt (x / 2 ^ e) (omega arith))))
-
-pub store-all : {s t : List ℕ} {i : ℕ} (n x : ℕ) → Stored s t i n (x / 2 ^ (8 * (n - n))) → Stored s t i n x
-store-all n x h = rw (sub_self n, div-one x) at h
+-- where the lowest n bytes of a number stand, they spell it
+pub low_bytes : (s : List ℕ) (i n x : ℕ) → n ≤ 8 → x < 2 ^ (8 * n) → x < 2 ^ 64 → ((k : ℕ) → k < n → get_or s (i + k) 0 ≡ get_or (to_be_bytes w64 x) (8 - n + k) 0)
+    → field s (8 * i) (8 * n) ≡ x
+low_bytes s i n x few below wide same =
+    let bytes = to_be_bytes w64 x in
+    let m = 8 - n in
+    let whole : 64 ≡ 8 * m + 8 * n = omega arith in
+    let spelt = sym (from_be_bytes-to_be_bytes_8 x wide) ∙ eight_bytes bytes (λ j h. small 8 x j) ∙ ap (λ (w : ℕ). field bytes 0 w) whole in
+    let last : x % 2 ^ (8 * n) ≡ field bytes (8 * m) (8 * n) = part-last bytes 0 (8 * m) (8 * n) spelt ∙ ap (λ (p : ℕ). field bytes p (8 * n)) (zero-add (8 * m)) in
+    moved s bytes i m n same ∙ sym last ∙ mod-eq_of_lt below

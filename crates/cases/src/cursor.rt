@@ -20,7 +20,7 @@ pub struct Numbers<'a> {
     pub count: usize,
 }
 
-// A place that is still in the file; 0, the front, for one that is not.
+// A place that is still in the file; 0, the front, for one that is not. No Option, here and in `number_at`: the program `stored` reads a damaged file on from there.
 fn within(file: &[u8], at: usize) -> usize
     ensures { (result ≤ length file.now) × (result ≤ 1000000) }
 {

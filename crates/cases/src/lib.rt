@@ -23,7 +23,8 @@ pub struct Tally {
     pub right: u32,
 }
 
-// A case of the read call: the file; number, length; the list afterwards.
+// A case of the read call: the file; number, length; the list afterwards. The lent buffers stay two values, here and below: of a struct that lends both, each
+// function would have to say that it lends the same ones afterwards.
 fn read_case(cases: &mut Cursor, list: &mut [u32]) -> bool {
     let net = cases.bytes();
     let reply = cases.reply();

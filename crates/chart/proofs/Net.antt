@@ -15,7 +15,10 @@ use Rattle.network.specs.Network.{Network, edition1, leg, of_file}
 use Rattle.network.specs.Answers.{size_of, network_found, leg_or_none}
 use Rattle.network.proofs.Sound.{SoundLeg, SoundNetwork}
 use Rattle.network.proofs.Files.{sound-file}
-use Rattle.chart.specs.Net.{net_of, net_in, theory, theory_in}
+use Rattle.network.specs.InFile.{Same}
+use Rattle.network.proofs.InFile.{leg-there}
+use Rattle.chart.specs.declared.tariff.Tariff.{Tariff}
+use Rattle.chart.specs.Net.{net_of, net_in, leg_in, theory, theory_in}
 use Rattle.chart.specs.Chart.{Charted, Chart}
 use Rattle.chart.proofs.Charting.{charted-leg}
 
@@ -85,3 +88,20 @@ module _ (s : List ℕ) (size : Size) (ok : network_found (of_file s) ≡ Ok siz
     leg-is chart c =
         ap (λ (n : ℕ). leg_or_none (leg edition1 n (file_of s) (get_or chart k 0))) places-are
         ∙ charted-leg s (net_in s) chart (charted chart c) k leg-known
+
+-- ---- of a tariff
+
+module _ (t : Tariff) where
+  pub read : InFile t.net.now t.size
+  read = in-file t.net.now t.size t.sound
+
+  module _ (k : ℕ) (low : k < t.size.legs) where
+    -- leg k where it stands in the file
+    pub leg-stands : Same t.net.now (get_or t.chart k 0) (leg_in t.net.now k)
+    leg-stands =
+        let c = charted t.net.now t.size t.sound t.chart t.charted in
+        let there = c.stands k (leg-known t.net.now t.size t.sound k low) in
+        leg-there t.net.now (net_in t.net.now).places (get_or t.chart k 0) (leg_in t.net.now k) there.0 there.1
+
+    pub tariff-leg-sound : SoundLeg (net_in t.net.now).places (leg_in t.net.now k)
+    tariff-leg-sound = leg-sound t.net.now t.size t.sound k low

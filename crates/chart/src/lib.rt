@@ -3,28 +3,27 @@
 
 ghost use Rattle.std.specs.Prelude.{◌≡◌, ◌≤◌};
 ghost use Rattle.source.specs.Source.{file_of};
-ghost use Rattle.network.specs.Network.{edition1, leg, of_file};
-ghost use Rattle.network.specs.Answers.{leg_or_none, network_found};
+ghost use Rattle.network.specs.Network.{edition1, leg};
+ghost use Rattle.network.specs.Answers.{leg_or_none};
 ghost use Rattle.chart.specs.Chart.{Chart};
 
 mod tariff;
 
 use leg::Leg;
-use network::Size;
+use network::SoundFile;
 use source::File;
 pub use tariff::Tariff;
 
 // The bit at which each leg stands: a leg's head has 28 bits, the last four of them its number of bands, and each band 28.
-pub fn chart(net: &[u8], size: Size) -> [u32; 512]
-    requires { network_found (of_file net.now) ≡ Ok size }
-    ensures { Chart net.now result }
+pub fn chart(file: SoundFile<'_>) -> [u32; 512]
+    ensures { Chart file.entry.net.now result }
 {
-    let legs = size.legs;
+    let legs = file.size.legs;
     let mut chart = [0u32; 512];
     let mut place = 25;
     for k in 0..legs {
         chart[k] = place as u32;
-        let bands = reader::field(net, place + 24, 4) as usize;
+        let bands = reader::field(file.net, place + 24, 4) as usize;
         place += 28 + 28 * bands;
     }
     chart
@@ -37,6 +36,6 @@ pub fn leg_at(net: &[u8], places: u32, at: u32) -> Leg
 {
     match network::leg_from(&File(net), at as usize, places) {
         Ok((leg, _)) => leg,
-        Err(_) => Leg::none(),
+        Err(_) => Leg::none(), // what the promise says of a bit where no leg stands
     }
 }

@@ -10,6 +10,9 @@ use borrow.Author.Tests.{eqb-true, eqb-false}
 use lib.Dec.{T, eqb}
 use lib.ListN.{length}
 use native.Mathlib.Numerals.{add-one}
+use Rattle.std.proofs.Common.{nat_cmp}
+use Rattle.std.specs.Ordering.{is_lt}
+use Rattle.leg.proofs.Order.{not-earlier}
 use Rattle.bits.specs.Field.{field}
 use Rattle.bits.proofs.Fields.{field_below}
 use Rattle.plan_file.proofs.Files.{plan-size, stated-none, stated-some}
@@ -32,6 +35,10 @@ use Rattle.gate.specs.Parts.{Boards, Rode, Riding, Arrived}
 -- no toll of a sound leg is above 65,535
 pub toll-small : (places : ℕ) (l : Leg) (t : ℕ) → SoundLeg places l → toll_at l t ≤ 65535
 toll-small places l t s = toll-most l.count l.bands t 65535 s.tolls_within
+
+-- a departure that is not before an arrival
+pub not-before : (r : Bool) (departs x time : Minute) → r ≡ is_lt (nat_cmp departs x) → r ≡ false → x ≡ time → time ≤ departs
+not-before r departs x time e not same = omega (arith, same, not-earlier departs x r e not)
 
 -- a ride of the network's leg l that was boarded
 pub rode-on : (s : List ℕ) (r : Ride) (state : State) (l : Leg) (toll : Cents) → l ≡ leg_in s r.leg

@@ -2,16 +2,15 @@
 use Rattle.std.specs.Prelude.{ℕ, ◌+◌, ◌*◌, ◌≤◌, ◌<◌, ◌≡◌, List, get_or, Option, Some, None}
 use Rattle.std.proofs.Math.Option.{some}
 use Rattle.network.specs.Reading.{Found}
+use Rattle.chart.specs.declared.tariff.Tariff.{Tariff}
 use Rattle.chart.specs.Net.{net_in, leg_in}
 use Rattle.plan.specs.Network.{Minute, Cents, Network, Query}
 use Rattle.plan.specs.Plan.{Ride, arrives, place, arrival, cost, Runs}
 use Rattle.plan.specs.Sheet.{Step, value}
-use Rattle.plan_file.specs.declared.Query.{Query as QueryStruct}
 use Rattle.plan_reader.specs.InPlace.{rides_at}
 use Rattle.rule_b.specs.Rule.{RuleB}
-use Rattle.rule_b.specs.Cursor.{PlaceAsked}
 use Rattle.sheet_file.specs.InPlace.{place_at}
-use Rattle.sheet_file.specs.Window.{window}
+use Rattle.sheet_file.specs.declared.sound_sheet.SoundSheet.{SoundSheet}
 use Rattle.gate.specs.declared.State.{State}
 use Rattle.sheet_file.specs.SheetFile.{sheet_of}
 use Rattle.gate.specs.Gate.{Known}
@@ -63,26 +62,24 @@ pub record Asked (s : List ℕ) (q : Query) : Type 0 where
 abbrev pub sheet_at : List ℕ → List ℕ → Query → Found (List (List Step))
 sheet_at net s q = sheet_of (net_in net).places q s
 
--- every place's steps are as described and lie in the file, from the bit that the index gives
-pub record Placed (s : List ℕ) (places : ℕ) (q : Query) (index : List ℕ) : Type 0 where
-  pub few : places ≤ 64
-  pub each : (p : ℕ) → p < places → PlaceAsked s (get_or index p 0) q
-  pub end : q.latest ≤ 2879
+-- the steps of a place of a judged sheet
+abbrev pub steps_in : SoundSheet → ℕ → List Step
+steps_in sheet p = place_at sheet.sheet.now (get_or sheet.index p 0)
+
+-- a sheet that was judged for this network, up to a minute of the three days
+pub record Fits (t : Tariff) (sheet : SoundSheet) : Type 0 where
+  pub places : sheet.places ≡ t.size.places
+  pub end : sheet.window.latest.0 ≤ 2879
 
 -- rule (b) for leg k, over the steps where they stand
-abbrev pub RuleOf : List ℕ → List ℕ → List ℕ → Minute → ℕ → Type 0
-RuleOf net s index latest k =
-    RuleB latest (leg_in net k) (place_at s (get_or index (leg_in net k).from 0)) (place_at s (get_or index (leg_in net k).to 0))
+abbrev pub RuleOf : List ℕ → SoundSheet → ℕ → Type 0
+RuleOf net sheet k = RuleB sheet.window.latest.0 (leg_in net k) (steps_in sheet (leg_in net k).from) (steps_in sheet (leg_in net k).to)
 
 -- rule (b) for the first `legs` legs
-abbrev pub RulesOf : List ℕ → List ℕ → List ℕ → Minute → ℕ → Type 0
-RulesOf net s index latest legs = (k : ℕ) → k < legs → RuleOf net s index latest k
+abbrev pub RulesOf : List ℕ → SoundSheet → ℕ → Type 0
+RulesOf net sheet legs = (k : ℕ) → k < legs → RuleOf net sheet k
 
 -- both rules, so
-pub record Ruled (net s index : List ℕ) (legs : ℕ) (q : Query) : Type 0 where
-  pub a : value (place_at s (get_or index q.start 0)) q.earliest ≡ some 0
-  pub b : RulesOf net s index q.latest legs
-
--- the window of a query, for the sheet
-abbrev pub window_of : QueryStruct → Query
-window_of a = window a.earliest.0 a.latest.0
+pub record Ruled (net : List ℕ) (sheet : SoundSheet) (legs start : ℕ) : Type 0 where
+  pub a : value (steps_in sheet start) sheet.window.earliest.0 ≡ some 0
+  pub b : RulesOf net sheet legs

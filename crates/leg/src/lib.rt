@@ -1,17 +1,24 @@
 // The quantities of document 01 (a minute, cents) and a leg with its bands: what each may hold, and a leg's toll.
 #![tactic(auto)]
 
-ghost use Rattle.std.specs.Prelude.{◌≡◌, ◌≤◌};
+ghost use Rattle.std.specs.Prelude.{◌≡◌, ◌+◌, ◌-◌, ◌≤◌};
 ghost use Rattle.leg.specs.Ranges.{last_minute, most_cents, most_bands, minute, minute_of, cents_of, count_of, band_of, no_band, no_bands, leg_of};
 ghost use Rattle.leg.specs.Toll.{toll_at};
 
 // A minute of the day or a driving time in minutes: never to be added to cents.
-#[derive(Clone, Copy)]
+#[derive(Clone, Copy, PartialEq, Eq, PartialOrd, Ord)]
 pub struct Minute(pub u32);
 
 // Cents of toll.
-#[derive(Clone, Copy)]
+#[derive(Clone, Copy, PartialEq, Eq, PartialOrd, Ord)]
 pub struct Cents(pub u32);
+
+// The minutes from earliest to latest, both counted.
+#[derive(Clone, Copy)]
+pub struct Window {
+    pub earliest: Minute,
+    pub latest: Minute,
+}
 
 // From its start up to, but not including, the next band's start a leg costs this toll.
 #[derive(Clone, Copy)]
@@ -22,6 +29,7 @@ pub struct Band {
 
 // A leg with its bands: the first `count` of the eight are the leg's, the others hold zeros. An array and a count: fixed memory, as
 // document 01 asks for it.
+// That the count is at most eight is asked where it matters and is no ghost field: `with_band`, by which the definition of a network goes, makes legs of any count.
 #[derive(Clone, Copy)]
 pub struct Leg {
     pub from: u32,
@@ -32,7 +40,9 @@ pub struct Leg {
 }
 
 impl Minute {
-    // A number of 13 bits, so that no field holds it: a minute that never comes. No Option: cards count by adding it, without a branch.
+    // A number of 13 bits, so that no field holds it: a minute that never comes. No Option: a card counts by adding it, and a cursor with nothing left compares as later
+    // than every minute; an Option would be taken apart at both. That a minute comes (it is below this) is asked where it goes into a field or a card, and is no type: each
+    // call would have to make one first.
     pub const NEVER: u32 = 4096;
 
     pub const LAST: u32 = 2879;
@@ -64,6 +74,16 @@ impl Cents {
         } else {
             None
         }
+    }
+}
+
+impl Window {
+    // How many minutes it has: the columns of a minute table.
+    pub fn columns(self) -> u32
+        requires { (self.earliest.0 ≤ self.latest.0) × (self.latest.0 ≤ last_minute) }
+        ensures { (result ≡ self.latest.0 - self.earliest.0 + 1) × (result ≤ 2880) }
+    {
+        self.latest.0 + 1 - self.earliest.0
     }
 }
 
@@ -144,7 +164,7 @@ impl Leg {
     {
         let mut toll = Cents(0);
         for band in &self.bands[..self.count] {
-            if band.start.0 <= minute.0 {
+            if band.start <= minute {
                 toll = band.toll;
             }
         }

@@ -14,7 +14,7 @@ use Rattle.source.specs.Source.{file_of}
 use Rattle.network.specs.Reading.{found}
 use Rattle.network.specs.Network.{edition1, leg}
 use Rattle.network.specs.Fields.{band_fields, bands_fields, leg_fields}
-use Rattle.network.specs.InFile.{band_at, bands_at, leg_at}
+use Rattle.network.specs.InFile.{band_at, bands_at, leg_at, Same}
 use Rattle.network.proofs.Carries.{Carries, carries-split}
 use Rattle.network.proofs.Traces.{leg-trace}
 
@@ -28,14 +28,6 @@ band-there s at (suc n) (suc k) h =
     band-there s (at + 28) n k (omega arith) ∙ ap (band_at s) e
 
 -- ---- what is read of a leg in place is the leg that was found there
-
-pub record Same (s : List ℕ) (at : ℕ) (l : Leg) : Type 0 where
-  pub from_is : field s at 6 ≡ l.from
-  pub to_is : field s (at + 6) 6 ≡ l.to
-  pub time_is : field s (at + 12) 12 ≡ l.time.0
-  pub count_is : field s (at + 24) 4 ≡ l.count
-  pub band_is : (k : ℕ) → k < l.count → band_at s (at + 28 + 28 * k) ≡ get_or l.bands k no_band
-  pub inside : at + 28 + 28 * l.count ≤ 8 * length s
 
 -- so many bands that a file carries
 record Bands (s : List ℕ) (at n : ℕ) (bands : List Band) (end : ℕ) : Type 0 where

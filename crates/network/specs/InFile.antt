@@ -1,9 +1,9 @@
 -- A leg where it stands in a sound network file: what a reading in place goes by.
-use Rattle.std.specs.Prelude.{ℕ, zero, suc, ◌+◌, ◌*◌, ◌≤◌, ◌≡◌, List, [], ◌∷◌, length}
+use Rattle.std.specs.Prelude.{ℕ, zero, suc, ◌+◌, ◌*◌, ◌≤◌, ◌<◌, ◌≡◌, List, [], ◌∷◌, length, get_or}
 use Rattle.bits.specs.Field.{field}
 use Rattle.leg.specs.declared.Band.{Band}
 use Rattle.leg.specs.declared.Leg.{Leg}
-use Rattle.leg.specs.Ranges.{minute, band_of}
+use Rattle.leg.specs.Ranges.{minute, band_of, no_band}
 
 -- the band at a bit
 abbrev pub band_at : List ℕ → ℕ → Band
@@ -31,3 +31,12 @@ pub record LegThere (s : List ℕ) (at count : ℕ) : Type 0 where
   pub few : count ≤ 8
   pub count_is : count ≡ field s (at + 24) 4
   pub inside : at + 28 + 28 * count ≤ 8 * length s
+
+-- the fields from a bit on are those of this leg, and all of them are there
+pub record Same (s : List ℕ) (at : ℕ) (l : Leg) : Type 0 where
+  pub from_is : field s at 6 ≡ l.from
+  pub to_is : field s (at + 6) 6 ≡ l.to
+  pub time_is : field s (at + 12) 12 ≡ l.time.0
+  pub count_is : field s (at + 24) 4 ≡ l.count
+  pub band_is : (k : ℕ) → k < l.count → band_at s (at + 28 + 28 * k) ≡ get_or l.bands k no_band
+  pub inside : at + 28 + 28 * l.count ≤ 8 * length s

@@ -3,3 +3,4 @@ pub mod Network
 pub mod Fields
 pub mod Answers
 pub mod InFile
+pub mod SoundFile

@@ -33,6 +33,10 @@ pub record Query : Type 0 where
   pub earliest : Minute
   pub latest : Minute
 
+-- The query that four numbers make.
+abbrev pub asking : ℕ → ℕ → Minute → Minute → Query
+asking start end earliest latest = record { start = start; end = end; earliest = earliest; latest = latest }
+
 -- What holds of network and query before anything is planned: ranges kept, both places there, and a window that is not empty.
 pub record Askable (N : Network) (q : Query) : Type 0 where
   pub ranges : InRange N

@@ -9,7 +9,7 @@ use lib.ListN.{length, drop}
 use Rattle.answer.specs.Plans.{PlanAnswer, plan_filed, none_filed}
 use Rattle.std.specs.Prelude.{Err}
 use Rattle.answer.specs.declared.Refusal.TheVariants.{Room}
-use Rattle.network.specs.declared.Size.{Size}
+use Rattle.network.specs.declared.sound_file.SoundFile.{SoundFile}
 use Rattle.plan.specs.Network.{Minute, Network, Query}
 use Rattle.plan.specs.Table.{no_plan, cell_at}
 use Rattle.plan.proofs.Named.{none-feasible}
@@ -46,21 +46,21 @@ room N q out bytes file given right is n size h =
       output_is = rw fits (bytes, is, ap (λ (k : ℕ). bytes ++ drop k out) (sym size));
     }
 
-module _ (s : List ℕ) (size : Size) (a : Asked) (cells : List ℕ) (k : Tabled s size a cells) where
+module _ (file : SoundFile) (a : Asked) (cells : List ℕ) (k : Tabled file.net.now file.size a cells) where
   -- no plan at latest: none is feasible
-  pub none_right : cell_at (query_of a) cells a.end a.latest.0 ≡ no_plan → Right (theory_in s) (query_of a) (none_file (query_of a)) none_filed
-  none_right e = none (none-feasible (theory_in s) (query_of a) k.servable.asked (cell_at (query_of a) cells) k.table e)
+  pub none_right : cell_at (query_of a) cells a.end a.latest.0 ≡ no_plan → Right (theory_in file.net.now) (query_of a) (none_file (query_of a)) none_filed
+  none_right e = none (none-feasible (theory_in file.net.now) (query_of a) k.servable.asked (cell_at (query_of a) cells) k.table e)
 
   module _ (n : cell_at (query_of a) cells a.end a.latest.0 ≢ no_plan) (t : Minute)
       (f : FirstLike (query_of a) (cell_at (query_of a) cells) a.end 64 a.latest.0 t) where
     pub arrival-in : InTable cells (query_of a) a.end t
-    arrival-in = cell_in s size a cells k a.end t (record { place = k.servable.asked.goal; early = f.early; late = f.late })
+    arrival-in = cell_in file a cells k a.end t (record { place = k.servable.asked.goal; early = f.early; late = f.late })
 
     -- the plan's file does not fit
     pub too_long : (here : ℕ) → here ≡ cell_at (query_of a) cells a.end t → (out : List ℕ) → length out < (96 + 21 * (here % 64)) / 8
-        → Answered (theory_in s) (query_of a) out out (Err Room)
+        → Answered (theory_in file.net.now) (query_of a) out out (Err Room)
     too_long here is out h =
-        let N = theory_in s in
+        let N = theory_in file.net.now in
         let p = named-there N (query_of a) k.servable.asked (cell_at (query_of a) cells) k.table n in
         let legs = named-legs N (query_of a) k.servable.asked (cell_at (query_of a) cells) k.table n t f p.0 p.1 in
         let same : length p.0 ≡ here % 64 = legs ∙ ap (λ (x : ℕ). x % 64) (sym is) in

@@ -2,24 +2,22 @@
 #![tactic(auto)]
 
 ghost use Rattle.plan_file.specs.PlanFile.{query_of};
-ghost use Rattle.tabled.specs.Comes.{asking};
 ghost use Rattle.tabled.specs.Tabled.{Tabled};
 ghost use Rattle.chart.specs.Net.{theory_in};
 ghost use Rattle.plan_call.specs.Call.{Answered, Plans};
 
 use answer::{Filed, PlanAnswer, Refusal};
 use chart::Tariff;
-use leg::Minute;
-use network::Size;
+use network::SoundFile;
 use plan_file::Query;
 use walk::{Table, Walk};
 
 // 9, 10 and 0, from a filled table.
-fn answer(net: &[u8], size: Size, query: Query, cells: &[u32], out: &mut [u8]) -> PlanAnswer
-    requires { Tabled net.now size query cells.now }
-    ensures { Answered (theory_in net.now) (query_of query) out.old out.new result }
+fn answer(file: SoundFile<'_>, table: Table<'_>, out: &mut [u8]) -> PlanAnswer
+    requires { Tabled file.net.now file.size table.query table.cells.now }
+    ensures { Answered (theory_in file.entry.net.now) (query_of table.entry.query) out.old out.new result }
 {
-    let table = Table { cells, query };
+    let query = table.query;
     if table.cell(query.end, query.latest) == rows::NO_PLAN {
         if out.len() < 12 {
             return Err(Refusal::Room);
@@ -33,31 +31,20 @@ fn answer(net: &[u8], size: Size, query: Query, cells: &[u32], out: &mut [u8]) -
     if out.len() < bytes as usize {
         return Err(Refusal::Room);
     }
-    let tariff = Tariff::of(net, size);
+    let tariff = Tariff::of(file);
     let walk = Walk { tariff, table };
     walk.write_plan(&mut out[..bytes as usize], arrival);
     Ok(Filed::Plan(bytes))
 }
 
-// THE PLAN CALL.
-pub fn plan(
-    net: &[u8],
-    start: u32,
-    end: u32,
-    earliest: u32,
-    latest: u32,
-    table: &mut [u32],
-    out: &mut [u8],
-) -> PlanAnswer
-    ensures { Plans net.now (asking start end earliest latest) table.old table.new
-        out.old out.new result }
+// THE PLAN CALL. The sheet call is the same with another answer: one function for both would take the answer as a closure and its promise as a parameter, and be longer.
+pub fn plan(net: &[u8], query: Query, table: &mut [u32], out: &mut [u8]) -> PlanAnswer
+    ensures { Plans net.now (query_of query) table.old table.new out.old out.new result }
 {
-    let query = Query {
-        start,
-        end,
-        earliest: Minute(earliest),
-        latest: Minute(latest),
+    let file = tabled::fill_for(net, query, table)?;
+    let table = Table {
+        cells: table,
+        query,
     };
-    let size = tabled::fill_for(net, query, table)?;
-    answer(net, size, query, table, out)
+    answer(file, table, out)
 }

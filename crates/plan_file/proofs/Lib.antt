@@ -1,2 +1,4 @@
 pub mod Puts
 pub mod Files
+pub mod Known
+pub mod Windows

@@ -4,6 +4,7 @@ use Rattle.std.proofs.Math.Option.{Option, none, some}
 use Rattle.bits.specs.Packed.{Entry, item, bytes_for, Packed}
 use Rattle.plan.specs.Network.{Minute, Cents, Network, Query}
 use Rattle.plan.specs.Plan.{Ride, cost}
+use Rattle.leg.specs.declared.Window.{Window}
 use Rattle.plan_file.specs.declared.Query.{Query as Asked}
 use Rattle.plan_file.specs.declared.Verdict.{Verdict}
 
@@ -22,6 +23,10 @@ verdict_of Verdict.Plan = 1
 -- the code's query as the theory's
 abbrev pub query_of : Asked → Query
 query_of a = record { start = a.start; end = a.end; earliest = a.earliest.0; latest = a.latest.0 }
+
+-- its window
+abbrev pub window_of : Asked → Window
+window_of a = record { earliest = a.earliest; latest = a.latest }
 
 -- its values fit their fields
 pub record InWidth (a : Asked) : Type 0 where

@@ -3,9 +3,11 @@
 
 ghost use Rattle.std.specs.Prelude.{◌≡◌, ◌+◌, ◌*◌, ◌≤◌, ◌<◌, length};
 ghost use Rattle.plan_file.specs.Puts.{Puts};
-ghost use Rattle.plan_file.specs.PlanFile.{InWidth, verdict_of, query_of, query_fields, head_fields, ride_fields, ride_of};
+ghost use Rattle.plan_file.specs.PlanFile.{InWidth, verdict_of, query_of, window_of, head_fields, ride_fields, ride_of};
+ghost use Rattle.plan.specs.Network.{asking};
+ghost use Rattle.plan_file.specs.Known.{known};
 
-use leg::{Cents, Minute};
+use leg::{Cents, Minute, Window};
 
 // What a plan file says: "none", that there is no plan, or a plan. Their numbers are the field's.
 #[derive(Clone, Copy)]
@@ -31,20 +33,38 @@ pub struct Query {
     pub latest: Minute,
 }
 
-// The query's four fields.
-fn put_query(out: &mut [u8], query: Query)
-    requires { (12 ≤ length out.old) × InWidth query }
-    ensures { Puts out.old out.new 9 (query_fields (query_of query)) }
-{
-    let Query {
-        earliest,
-        latest,
-        ..
-    } = query;
-    bits::put(out, 9, 6, query.start);
-    bits::put(out, 15, 6, query.end);
-    bits::put(out, 21, 12, earliest.0);
-    bits::put(out, 33, 12, latest.0);
+impl Query {
+    // The query that four numbers make.
+    pub fn new(start: u32, end: u32, earliest: u32, latest: u32) -> Query
+        ensures { query_of result ≡ asking start end earliest latest }
+    {
+        Query {
+            start,
+            end,
+            earliest: Minute(earliest),
+            latest: Minute(latest),
+        }
+    }
+
+    // From when to when.
+    pub fn window(self) -> Window
+        ensures { result ≡ window_of self }
+    {
+        Window {
+            earliest: self.earliest,
+            latest: self.latest,
+        }
+    }
+
+    // Are start and end two of so many places, and the times minutes? Numbers are compared here: it is the test by which a number becomes a minute.
+    pub fn known(self, places: u32) -> bool
+        ensures { result ≡ known places (query_of self) }
+    {
+        self.start < places
+            && self.end < places
+            && self.earliest.0 <= Minute::LAST
+            && self.latest.0 <= Minute::LAST
+    }
 }
 
 // Everything before the rides. A verdict and a cost, and no optional cost in place of both: the promise covers each pair of them.
@@ -53,9 +73,17 @@ pub fn put_head(out: &mut [u8], verdict: Verdict, query: Query, cost: Cents, leg
     ensures { Puts out.old out.new 0 (head_fields (verdict_of verdict) (query_of query) cost.0 legs) }
 {
     let verdict = verdict.number();
+    let Query {
+        earliest,
+        latest,
+        ..
+    } = query;
     bits::put(out, 0, 8, 1);
     bits::put(out, 8, 1, verdict);
-    put_query(out, query);
+    bits::put(out, 9, 6, query.start);
+    bits::put(out, 15, 6, query.end);
+    bits::put(out, 21, 12, earliest.0);
+    bits::put(out, 33, 12, latest.0);
     bits::put(out, 45, 32, cost.0);
     bits::put(out, 77, 12, legs);
 }

@@ -2,6 +2,7 @@
 use Rattle.std.specs.Prelude.{ℕ, zero, suc, ◌+◌, ◌*◌, ◌≤◌, ◌≡◌, List, [], ◌∷◌, Option, Some, None}
 use Rattle.leg.specs.Price.{price_of}
 use Rattle.bits.specs.Field.{field}
+use Rattle.plan.specs.Network.{Query}
 use Rattle.plan.specs.Plan.{Ride}
 use Rattle.plan_file.specs.PlanFile.{PlanFile, FileOf, Allowed, most_legs, ride_of, query_of, stated}
 use Rattle.plan_reader.specs.declared.Plan.{Plan}
@@ -14,6 +15,10 @@ ride_at s k = ride_of (field s (89 + 21 * k) 9) (field s (89 + 21 * k + 9) 12)
 unfoldable pub rides_at : List ℕ → ℕ → List Ride
 rides_at s zero = []
 rides_at s (suc k) = ride_at s k ∷ rides_at s k
+
+-- the query that stands from a bit on
+abbrev pub query_at : List ℕ → ℕ → Query
+query_at s bit = record { start = field s bit 6; end = field s (bit + 6) 6; earliest = field s (bit + 12) 12; latest = field s (bit + 24) 12 }
 
 -- what the bytes say, if they are a plan file
 abbrev pub file_at : List ℕ → PlanFile

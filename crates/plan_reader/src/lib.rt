@@ -1,12 +1,12 @@
 // A plan file, judged and read in place.
 #![tactic(auto)]
 
-ghost use Rattle.std.specs.Prelude.{◌≡◌, ◌≤◌, length};
-ghost use Rattle.plan_file.specs.PlanFile.{query_of};
-ghost use Rattle.plan_reader.specs.InPlace.{file_at, HeadTold, Told};
+ghost use Rattle.std.specs.Prelude.{◌≡◌, ◌+◌, ◌*◌, ◌≤◌, length};
+ghost use Rattle.plan_file.specs.PlanFile.{verdict_of, query_of};
+ghost use Rattle.plan_reader.specs.InPlace.{query_at, ride_at, file_at, HeadTold, Told};
 
 use leg::{Cents, Minute};
-use plan_file::Query;
+use plan_file::{Query, Verdict};
 
 // What a plan file says, but for its rides: with "none" it states no cost.
 #[derive(Clone, Copy)]
@@ -22,16 +22,37 @@ impl Plan {
     pub const MOST_LEGS: usize = 63;
 }
 
-// The query of a plan file that has one.
-fn query(plan: &[u8]) -> Query
-    requires { 12 ≤ length plan.now }
-    ensures { query_of result ≡ (file_at plan.now).query }
+// The query that stands from a bit on.
+pub fn query_at(bytes: &[u8], bit: usize) -> Query
+    requires { (bit ≤ 1000000) × (bit + 36 ≤ 8 * length bytes.now) }
+    ensures { query_of result ≡ query_at bytes.now bit }
 {
     Query {
-        start: reader::field(plan, 9, 6),
-        end: reader::field(plan, 15, 6),
-        earliest: Minute(reader::field(plan, 21, 12)),
-        latest: Minute(reader::field(plan, 33, 12)),
+        start: reader::field(bytes, bit, 6),
+        end: reader::field(bytes, bit + 6, 6),
+        earliest: Minute(reader::field(bytes, bit + 12, 12)),
+        latest: Minute(reader::field(bytes, bit + 24, 12)),
+    }
+}
+
+// Ride k of a plan file, counted from the first: its leg, and when that is left for.
+pub fn ride_at(plan: &[u8], k: usize) -> (u32, Minute)
+    requires { (k ≤ 4096) × (89 + 21 * (k + 1) ≤ 8 * length plan.now) }
+    ensures { (result.0 ≡ (ride_at plan.now k).leg) × (result.1.0 ≡ (ride_at plan.now k).leave) }
+{
+    let (leg, departure) = reader::pair(plan, 89 + 21 * k, 9, 12);
+    (leg, Minute(departure))
+}
+
+// The verdict of a plan file that has one: its bit is the number.
+fn verdict(plan: &[u8]) -> Verdict
+    requires { 12 ≤ length plan.now }
+    ensures { verdict_of result ≡ (file_at plan.now).verdict }
+{
+    if reader::field(plan, 8, 1) == 0 {
+        Verdict::NoPlan
+    } else {
+        Verdict::Plan
     }
 }
 
@@ -48,21 +69,19 @@ fn head(plan: &[u8]) -> Option<Plan>
     if Plan::MOST_LEGS < legs {
         return None;
     }
-    let verdict = reader::field(plan, 8, 1);
     let cost = reader::field(plan, 45, 32);
-    if verdict != 0 {
-        return Some(Plan {
-            stated: Some(Cents(cost)),
-            query: query(plan),
-            legs,
-        });
-    }
-    if cost != 0 || legs != 0 {
-        return None;
-    }
+    let stated = match verdict(plan) {
+        Verdict::Plan => Some(Cents(cost)),
+        Verdict::NoPlan => {
+            if cost != 0 || legs != 0 {
+                return None;
+            }
+            None
+        }
+    };
     Some(Plan {
-        stated: None,
-        query: query(plan),
+        stated,
+        query: query_at(plan, 9),
         legs,
     })
 }

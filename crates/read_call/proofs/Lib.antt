@@ -1,4 +1,3 @@
-pub mod Parts
 pub mod Stores
 pub mod Listing
 pub mod Results

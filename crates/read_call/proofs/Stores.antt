@@ -1,8 +1,8 @@
 -- Runs of stores: one run after another is one run.
 use Prim.Native.Nat.{ℕ, suc, ◌+◌, ◌*◌, ◌≤◌}
-use mathlib.Core.Path.{◌≡◌, ◌∙◌, ap}
+use mathlib.Core.Path.{◌≡◌, ◌∙◌}
 use mathlib.Core.List.{List, [], ◌∷◌, ◌++◌}
-use native.Mathlib.Nat.{add-zero, add-suc, suc-add, zero-add}
+use native.Mathlib.Nat.{add_assoc, add-zero, add-suc, suc-add, zero-add}
 use native.Mathlib.Numerals.{add-four}
 use native.Mathlib.Omega.{arith}
 use lib.ListN.{length, length-map, set, get_or, drop}
@@ -10,6 +10,8 @@ use Rattle.bits.specs.Packed.{Entry}
 use Rattle.leg.specs.declared.Band.{Band}
 use Rattle.leg.specs.declared.Leg.{Leg}
 use Rattle.leg.specs.Ranges.{no_band}
+use Rattle.source.specs.Source.{fields_at, head_widths}
+use Rattle.network.specs.InFile.{leg_at}
 use Rattle.network.specs.Network.{edition1}
 use Rattle.network.specs.Fields.{band_fields, bands_fields, leg_fields, values}
 use Rattle.network.proofs.Fields.{bands-fields-more, bands-count, values-append}
@@ -27,6 +29,10 @@ band-stored l at k bs =
     let size : length vs ≡ 2 * k = length-map (bands_fields k bs) (λ (e : Entry). e.value) ∙ bands-count k bs in
     rw (bands-fields-more, values-append, sets-append l at vs, size)
 
+-- a head's fields are the numbers of the leg that stands there
+pub head-fields : (s : List ℕ) (at : ℕ) → fields_at s at head_widths ≡ (leg_at s at).from ∷ (leg_at s at).to ∷ (leg_at s at).time.0 ∷ (leg_at s at).count ∷ []
+head-fields s at = rw (add_assoc at 6 6, add_assoc at 12 12)
+
 -- a leg's head, then its bands
 pub leg-stored : (l : List ℕ) (at : ℕ) (leg : Leg)
     → sets (sets l at (leg.from ∷ leg.to ∷ leg.time.0 ∷ leg.count ∷ [])) (at + 4) (values (bands_fields leg.count leg.bands))
@@ -38,13 +44,3 @@ pub front : (l vs : List ℕ) → length vs ≤ length l → sets l 0 vs ≡ vs 
 front l vs h =
     let room : 0 + length vs ≤ length l = omega arith in
     sets-eq vs l 0 room ∙ rw zero-add
-
--- four numbers under other names, and two
-pub four_same : (l l' : List ℕ) (at : ℕ) {a b c d : ℕ} (a' b' c' d' : ℕ) → l' ≡ sets l at (a ∷ b ∷ c ∷ d ∷ []) → a ≡ a' → b ≡ b' → c ≡ c' → d ≡ d'
-    → l' ≡ sets l at (a' ∷ b' ∷ c' ∷ d' ∷ [])
-four_same l l' at {a} {b} {c} {d} a' b' c' d' is e f g h =
-    is ∙ ap (λ x. sets l at (x ∷ b ∷ c ∷ d ∷ [])) e ∙ ap (λ x. sets l at (a' ∷ x ∷ c ∷ d ∷ [])) f
-    ∙ ap (λ x. sets l at (a' ∷ b' ∷ x ∷ d ∷ [])) g ∙ ap (λ x. sets l at (a' ∷ b' ∷ c' ∷ x ∷ [])) h
-
-pub two-same : (l l' : List ℕ) (at : ℕ) {a b : ℕ} (a' b' : ℕ) → l' ≡ sets l at (a ∷ b ∷ []) → a ≡ a' → b ≡ b' → l' ≡ sets l at (a' ∷ b' ∷ [])
-two-same l l' at {a} {b} a' b' is e f = is ∙ ap (λ x. sets l at (x ∷ b ∷ [])) e ∙ ap (λ x. sets l at (a' ∷ x ∷ [])) f

@@ -1,4 +1,5 @@
 // A bit reader: a lent file and the bit at which it reads. Fields are taken one after another straight from the lent bytes.
+// That a width is 1 to 32 is asked in each contract and is no type: each call writes it as a number, and a type would have each call make one first.
 #![tactic(auto)]
 
 ghost use Rattle.std.specs.Prelude.{◌≡◌, ◌+◌, ◌*◌, ◌^◌, ◌≤◌, ◌<◌, leb, length};
@@ -61,7 +62,7 @@ pub fn there(file: &[u8], at: usize, width: usize) -> bool
     requires { (at ≤ 10000000) × (width ≤ 64) }
     ensures { result ≡ leb (at + width) (8 * length file.now) }
 {
-    (at + width + 7) / 8 <= file.len()
+    (at + width).div_ceil(8) <= file.len()
 }
 
 // Is there nothing but fill from bit `at` on: the last byte is filled with zero bits, and nothing follows?
@@ -69,7 +70,7 @@ pub fn ends(file: &[u8], at: usize) -> bool
     requires { at ≤ 10000000 }
     ensures { result ≡ ends_at file.now at }
 {
-    if file.len() != (at + 7) / 8 {
+    if file.len() != at.div_ceil(8) {
         return false;
     }
     let fill = 8 * file.len() - at;

@@ -12,11 +12,10 @@ use lib.Seq.{take_all}
 use Rattle.answer.specs.declared.Refusal.{Refusal}
 use Rattle.answer.specs.declared.Refusal.TheVariants.{Room}
 use Rattle.answer.specs.Plans.{PlanAnswer, plan_filed, none_filed}
-use Rattle.std.specs.Prelude.{Err}
+use Rattle.std.specs.Prelude.{Result, Ok, Err}
 use Rattle.answer.specs.Numbers.{number_of}
 use Rattle.bits.specs.Field.{field}
 use Rattle.bits.proofs.Bytes.{field-append}
-use Rattle.std.specs.Prelude.{Err}
 use Rattle.network.specs.Reading.{pick}
 use Rattle.network.specs.Network.{of_file}
 use Rattle.network.specs.Answers.{network_found}
@@ -33,6 +32,7 @@ use Rattle.plan_call.specs.Call.{Right, plan, none, Output, Answered, Plans}
 use Rattle.text.specs.declared.Page.{Page}
 use Rattle.text.specs.Text.{Writes}
 use Rattle.chart.specs.Net.{theory_in}
+use Rattle.report.specs.Pages.{Fills}
 use Rattle.report.specs.Rides.{rides_in, Ridden}
 use Rattle.report.specs.Report.{answer_text, cost_text, arrive_text, rides_text, file_text, Shows, shown, nothing, Prints, latest_of, query_in, Whole, Reports}
 use Rattle.report.proofs.Riding.{rides-are}
@@ -140,9 +140,9 @@ module _ (s : List ℕ) (q : Query) (table table' out out' : List ℕ) (lent : 1
           subst (λ (x : Judged). Prints x q (answer_text 10)) (sym j)
           (nothing (not_done (theory_in s) q asked out out' lent n d.0 d.1 _ d.2 (sym e ∙ d.3)))
 
-  pub plan-refused : (answer : PlanAnswer) (why : Refusal) (k : ℕ) → k ≡ number_of why → answer ≡ Err why → Plans s q table table' out out' answer
-      → Prints (judged (of_file s) q (length table)) q (answer_text k)
-  plan-refused answer why k is e p = subst (λ (n : ℕ). Prints (judged (of_file s) q (length table)) q (answer_text n)) (sym is) (at (comes-to s q (length table)))
+  pub plan-refused : (answer : PlanAnswer) (why : Refusal) → answer ≡ Err why → Plans s q table table' out out' answer
+      → Prints (judged (of_file s) q (length table)) q (answer_text (number_of why))
+  plan-refused answer why e p = at (comes-to s q (length table))
     where
       at : ((w : Refusal) × (judged (of_file s) q (length table) ≡ refuse w)) ⊎ ((judged (of_file s) q (length table) ≡ serve (theory_in s)) × Askable (theory_in s) q)
           → Prints (judged (of_file s) q (length table)) q (answer_text (number_of why))
@@ -156,9 +156,9 @@ module _ (s : List ℕ) (q : Query) (table table' out out' : List ℕ) (lent : 1
           let d = data-in (theory_in s) q asked out out' lent answer u.answered in
           absurd (no-refusal (theory_in s) q asked out out' lent why d.0 d.1 _ d.2 (sym e ∙ d.3))
 
-pub net-refused : (s : List ℕ) (q : Query) (n : ℕ) (why : Refusal) (k : ℕ) → k ≡ number_of why → network_found (of_file s) ≡ Err why
-    → Prints (judged (of_file s) q n) q (answer_text k)
-net-refused s q n why k is e = subst (λ (x : Judged). Prints x q (answer_text k)) (sym (judged-refused (of_file s) q n why e)) (ap answer_text is)
+pub net-refused : (s : List ℕ) (q : Query) (n : ℕ) (why : Refusal) → network_found (of_file s) ≡ Err why
+    → Prints (judged (of_file s) q n) q (answer_text (number_of why))
+net-refused s q n why e = subst (λ (x : Judged). Prints x q (answer_text (number_of why))) (sym (judged-refused (of_file s) q n why e)) refl
 
 -- what is asked of a plan file before it is printed, and what is then printed
 module _ (s : List ℕ) (q : Query) (file : List ℕ) (t : Told (theory_in s) q file) where
@@ -185,9 +185,13 @@ module _ (s : List ℕ) (q : Query) (file : List ℕ) (t : Told (theory_in s) q 
 pub front : (s t : Page) (text : List ℕ) → s.at ≡ 0 → Writes s t text → take t.at t.out.now ≡ text
 front s t text e w = w.adds.reads ∙ ap (λ (n : ℕ). take n s.out.now ++ text) e
 
-pub printed : (j : Judged) (q : Query) (s t : Page) (text : List ℕ) → s.at ≡ 0 → Writes s t text → Prints j q text
-    → Prints j q (take t.at t.out.now) × (t.at ≤ length t.out.now) × (t.out.ghost_name ≡ s.out.ghost_name)
-printed j q s t text e w p = (subst (Prints j q) (sym (front s t text e w)) p, w.adds.fits, w.same)
+pub printed : (Promise : List ℕ → Type 0) (s t : Page) (text : List ℕ) → s.at ≡ 0 → Writes s t text → Promise text → Fills Promise s t (Ok tt)
+printed Promise s t text e w p = (subst Promise (sym (front s t text e w)) p, w.adds.fits, w.same)
+
+-- one promise from another
+pub fills-by : (P Q : List ℕ → Type 0) → ((text : List ℕ) → P text → Q text) → (s t : Page) (r : Result Unit Refusal) → Fills P s t r → Fills Q s t r
+fills-by P Q by s t (Ok _) h = (by _ h.0, h.1, h.2)
+fills-by P Q by s t (Err _) h = (by _ h.0, h.1, h.2, h.3)
 
 -- the bytes behind the query
 pub rest-is : (input : List ℕ) → take (length input - 5) (drop 5 input) ≡ drop 5 input

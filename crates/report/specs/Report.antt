@@ -7,7 +7,7 @@ use Rattle.plan.specs.Network.{Minute, Network, Query}
 use Rattle.plan.specs.Plan.{Ride, arrival, cost, Feasible}
 use Rattle.plan.specs.Tie.{Named}
 use Rattle.tabled.specs.Judge.{Judged, refuse, serve, judged}
-use Rattle.tabled.specs.Comes.{asking}
+use Rattle.plan.specs.Network.{asking}
 use Rattle.text.specs.Text.{item, line}
 use Rattle.report.specs.Rides.{rides_in}
 

@@ -7,6 +7,7 @@ ghost use Rattle.plan_file.specs.PlanFile.{query_of};
 ghost use Rattle.tabled.specs.Judge.{judged};
 ghost use Rattle.text.specs.Text.{HasRoom, Writes};
 ghost use Rattle.report.specs.Report.{answer_text, latest_of, Prints, Reports};
+ghost use Rattle.report.specs.Pages.{Fills};
 
 mod rides;
 
@@ -15,7 +16,6 @@ use chart::Tariff;
 use leg::Minute;
 use plan_file::Query;
 use rides::Rides;
-use source::File;
 use text::Page;
 
 // `answer N`.
@@ -33,70 +33,64 @@ fn latest_of(latest: u32) -> u32
     if latest == 4095 { 1439 } else { latest }
 }
 
-// A network and a query: what the plan call answers.
-fn net_text(net: &[u8], query: Query, table: &mut [u32], plan: &mut [u8], page: &mut Page)
+// A network and a query: the lines of the plan, or why there are none. The room that a plan and its text need is asked for here, in `whole_text` and in
+// `report`: a struct of the three lent buffers would have to say in each of their contracts that it lends the same ones afterwards.
+fn net_text(
+    net: &[u8],
+    query: Query,
+    table: &mut [u32],
+    plan: &mut [u8],
+    page: &mut Page,
+) -> Result<(), Refusal>
     requires { (177 ≤ length plan.old) × (4096 ≤ length page.old.out.now) × (page.old.at ≡ 0) }
-    ensures { Prints (judged (of_file net.now) (query_of query) (length table.old)) (query_of query)
-        (take page.new.at page.new.out.now) × (page.new.at ≤ length page.new.out.now)
-        × (page.new.out.ghost_name ≡ page.old.out.ghost_name) }
+    ensures { Fills (Prints (judged (of_file net.now) (query_of query) (length table.old)) (query_of query)) page.old page.new result }
 {
-    match network::network_from(&File(net)) {
-        Err(why) => answer_line(page, why.number()),
-        Ok(size) => {
-            let answer = plan_call::plan(
-                net,
-                query.start,
-                query.end,
-                query.earliest.0,
-                query.latest.0,
-                table,
+    let file = network::judge(net)?;
+    match plan_call::plan(net, query, table, plan)? {
+        Filed::Plan(_) => {
+            let tariff = Tariff::of(file);
+            let rides = Rides {
+                tariff,
                 plan,
-            );
-            match answer {
-                Ok(Filed::Plan(_)) => {
-                    let tariff = Tariff::of(net, size);
-                    let rides = Rides {
-                        tariff,
-                        plan,
-                        query,
-                    };
-                    rides.text(page)
-                }
-                Ok(Filed::NoPlan(_)) => answer_line(page, Refusal::NoPlan.number()),
-                Err(why) => answer_line(page, why.number()),
-            }
+                query,
+            };
+            rides.text(page);
+            Ok(())
         }
+        Filed::NoPlan(_) => Err(Refusal::NoPlan),
     }
 }
 
-// The text of an input, on an empty page.
-fn whole_text(input: &[u8], table: &mut [u32], plan: &mut [u8], page: &mut Page)
+// The lines of an input's plan, on an empty page, or why there are none.
+fn whole_text(
+    input: &[u8],
+    table: &mut [u32],
+    plan: &mut [u8],
+    page: &mut Page,
+) -> Result<(), Refusal>
     requires { (177 ≤ length plan.old) × (4096 ≤ length page.old.out.now) × (page.old.at ≡ 0) }
-    ensures { Reports input.now (length table.old) (take page.new.at page.new.out.now)
-        × (page.new.at ≤ length page.new.out.now) × (page.new.out.ghost_name ≡ page.old.out.ghost_name) }
+    ensures { Fills (Reports input.now (length table.old)) page.old page.new result }
 {
     if input.len() < 5 {
-        return answer_line(page, Refusal::Short.number());
+        return Err(Refusal::Short);
     }
     if reader::field(input, 36, 4) != 0 {
-        return answer_line(page, Refusal::Tail.number());
+        return Err(Refusal::Tail);
     }
-    let query = Query {
-        start: reader::field(input, 0, 6),
-        end: reader::field(input, 6, 6),
-        earliest: Minute(reader::field(input, 12, 12)),
-        latest: Minute(latest_of(reader::field(input, 24, 12))),
-    };
-    net_text(&input[5..], query, table, plan, page);
+    let query = plan_reader::query_at(input, 0);
+    let latest = Minute(latest_of(query.latest.0));
+    net_text(&input[5..], Query { latest, ..query }, table, plan, page)
 }
 
-// THE REPORT.
+// THE REPORT: a refusal is one line, the answer's number.
 pub fn report(input: &[u8], table: &mut [u32], plan: &mut [u8], text: &mut [u8]) -> usize
     requires { (177 ≤ length plan.old) × (4096 ≤ length text.old) }
     ensures { Reports input.now (length table.old) (take result text.new)
         × (result ≤ length text.new) }
 {
     let mut page = Page { out: text, at: 0 };
-    whole_text(input, table, plan, &mut page);
+    if let Err(why) = whole_text(input, table, plan, &mut page) {
+        answer_line(&mut page, why.number());
+    }
     page.at
 }

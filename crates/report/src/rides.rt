@@ -38,9 +38,9 @@ impl<'a> Rides<'a> {
         if count == 0 {
             return self.query.earliest;
         }
-        let (leg, departure) = reader::pair(self.plan, 89 + 21 * (count - 1), 9, 12);
+        let (leg, departure) = plan_reader::ride_at(self.plan, count - 1);
         let ridden = self.tariff.leg(leg as usize);
-        Minute(departure + ridden.time.0)
+        Minute(departure.0 + ridden.time.0)
     }
 
     // The line of ride `k`.
@@ -52,10 +52,10 @@ impl<'a> Rides<'a> {
             - arrival (theory_in self.now.tariff.net.now) (query_of self.now.query) (rides_in self.now.plan.now k)))
             × (page.new.at ≤ page.old.at + 48) }
     {
-        let (leg, departure) = reader::pair(self.plan, 89 + 21 * k, 9, 12);
+        let (leg, departure) = plan_reader::ride_at(self.plan, k);
         let before = self.arrival_after(k);
-        let wait = departure - before.0;
-        leg_line(page, leg, Minute(departure), Minute(wait));
+        let wait = departure.0 - before.0;
+        leg_line(page, leg, departure, Minute(wait));
     }
 
     // The lines of all rides.

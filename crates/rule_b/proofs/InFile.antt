@@ -10,7 +10,8 @@ use Rattle.leg.specs.declared.Leg.{Leg}
 use Rattle.leg.specs.Ranges.{no_band}
 use Rattle.leg.specs.Toll.{toll_of_first, toll_at}
 use Rattle.network.specs.InFile.{leg_at}
-use Rattle.network.proofs.InFile.{Same, bands-same}
+use Rattle.network.proofs.InFile.{bands-same}
+use Rattle.network.specs.InFile.{Same}
 use Rattle.plan.specs.Sheet.{Step}
 use Rattle.rule_b.specs.Rule.{Is, RuleB, InOrder}
 

@@ -6,22 +6,13 @@ use mathlib.Core.Bool.{Bool, true, false}
 use mathlib.Core.Option.{Option, none, some}
 use mathlib.Core.List.{List}
 use native.Mathlib.Decide.{dec_lt}
-use Rattle.std.specs.Prelude.{Some, None}
-use Rattle.std.specs.Option.{is_some}
-use Rattle.leg.specs.declared.Cents.{Cents as CentsStruct}
 use Rattle.leg.specs.declared.Leg.{Leg}
 use Rattle.leg.specs.Toll.{toll_at}
 use Rattle.plan.specs.Network.{Minute, Cents}
 use Rattle.plan.specs.Sheet.{Step, value, AtMost}
 use Rattle.rule_b.specs.Rule.{Is, RuleAt}
-use Rattle.leg.specs.Price.{price_of}
 use Rattle.rule_b.specs.Cursor.{Covers}
 use Rattle.rule_cards.specs.Cards.{RuleIf}
-
--- no value at the departure: nothing is asked
-pub covers-nothing : (r : Rattle.std.specs.Prelude.Option CentsStruct) (w : Option Cents) (toll : Cents) → is_some r ≡ false → Covers (price_of r) w toll
-covers-nothing None w toll e = tt
-covers-nothing (Some x) w toll e = let z : ◌≡◌ {A = ℕ} 0 1 = cc in absurd (omega arith)
 
 -- what covers the values covers those that the cards show
 pub covers-same : (b : Bool) (v : Option Cents) (w u : Option Cents) (toll : Cents) → w ≡ u → Is b (Covers v u toll) → Is b (Covers v w toll)
@@ -60,3 +51,8 @@ one_more P k old new n h = at (dec_lt n k)
     at : Dec (n < k) → P n
     at (yes low) = old n low
     at (no high) = let same : n ≡ k = omega arith in subst P (sym same) new
+
+-- where one half holds, the other decides
+pub half-decides : (r : Bool) (P half : Type 0) → (half → P) → (P → half) → Is r half → Is r P
+half-decides true P half make take h = make h
+half-decides false P half make take fails = λ p. fails (take p)

@@ -21,7 +21,8 @@ use Rattle.sheet_file.specs.InPlace.{step_at, steps_at, place_at, count_at}
 use Rattle.rule_b.specs.Rule.{InOrder}
 use Rattle.network.specs.InFile.{leg_at}
 use Rattle.leg.specs.Price.{price_of}
-use Rattle.rule_b.specs.Cursor.{first_of, Sorted}
+use Rattle.rule_b.specs.Held.{first_of}
+use Rattle.rule_b.specs.Cursor.{Sorted}
 use Rattle.rule_b.proofs.Walks.{first-none, first_some, none_before, steps-sorted}
 use Rattle.network.proofs.InFile.{band-there}
 use Rattle.card.specs.declared.Card.{Card}
@@ -168,22 +169,6 @@ module _ (q : Query) (s : List ℕ) (place : ℕ) (steps : Steps q (place_at s p
           value-is ∙ ap (last_of s (place + 12)) e
           ∙ ap some (sym same) ∙ ap (λ x. price_of x) (sym (shows.last m (e ∙ one)))
 
-  -- and step k with its cents
-  pub step-on-card : (k : ℕ) → k < count_at s place → value (place_at s place) (slot c.minutes.now 0 k) ≡ some (slot c.prices.now 0 k)
-  step-on-card k h =
-      let t = slot c.minutes.now 0 k in
-      let is = card.written.minute_is k h in
-      let next : k + 1 ≡ suc k = omega arith in
-      value-begun q s t (suc k) (place + 12) (count_at s place) (omega (arith, is, field_below s (place + 12 + k * 44) 12)) (omega arith) sorted
-      (λ m l. earlier m (omega arith)) (λ l. omega (arith, is, subst (λ (n : ℕ). field s (place + 12 + k * 44) 12 < field s (place + 12 + n * 44) 12) next (place-ordered k (omega arith))))
-      ∙ ap some (sym (card.written.price_is k h))
-    where
-      earlier : (m : ℕ) → m ≤ k → field s (place + 12 + m * 44) 12 ≤ slot c.minutes.now 0 k
-      earlier m l =
-          let e : m + (k - m) ≡ k = omega arith in
-          let up = ordered-up s (place + 12) 32 (count_at s place) place-ordered m (k - m) (omega (arith, e)) in
-          omega (arith, card.written.minute_is k h, subst (λ (n : ℕ). field s (place + 12 + m * 44) 12 ≤ field s (place + 12 + n * 44) 12) e up)
-
 -- which step of how many has a minute
 step-number : (s : List ℕ) (bit count : ℕ) (m : Minute) → StepAt (steps_at s bit count) m → (k : ℕ) × (k < count) × (m ≡ field s (bit + k * 44) 12)
 unfolding steps_at
@@ -256,21 +241,6 @@ module _ (s : List ℕ) (at : ℕ) (order : InOrder (leg_at s at)) (c : Card)
           toll-begun-at t m (omega (arith, n-few, e)) (shows.begun.before m (omega (arith, e)))
           (λ k l h. shows.begun.after k (omega (arith, e)) (omega (arith, card.few)))
           ∙ ap (λ x. toll_shown x) (sym (shows.last m (e ∙ one)))
-
-  -- and band k with its toll
-  pub band-on-card : (k : ℕ) → k < (leg_at s at).count → toll_at (leg_at s at) (slot c.minutes.now 0 k) ≡ slot c.prices.now 0 k
-  band-on-card k h =
-      toll-begun-at (slot c.minutes.now 0 k) k (omega arith) (omega arith)
-      (λ m l low.
-      let e : k + 1 + (m - (k + 1)) ≡ m = omega arith in
-      let up = ordered-up s (at + 28) 16 (leg_at s at).count bands-ordered (k + 1) (m - (k + 1)) (omega (arith, e)) in
-      omega (
-        arith,
-        card.written.minute_is k h,
-        card.written.minute_is m low,
-        bands-ordered k (omega arith),
-        subst (λ (n : ℕ). field s (at + 28 + (k + 1) * (12 + 16)) 12 ≤ field s (at + 28 + n * (12 + 16)) 12) e up,
-      ))
 
   -- where band k starts
   pub band-slot : (k : ℕ) → k < (leg_at s at).count → (get_or (leg_at s at).bands k no_band).start.0 ≡ slot c.minutes.now 0 k

@@ -4,36 +4,34 @@ use native.Mathlib.Omega.{arith}
 use mathlib.Core.Path.{◌≡◌, sym, ◌∙◌, subst}
 use mathlib.Core.Bool.{Bool, true, false}
 use mathlib.Core.List.{List}
-use lib.ListN.{length, get_or, replicate, get_or-replicate, length-replicate}
+use lib.ListN.{length, get_or}
 use Rattle.bits.specs.Field.{field}
-use Rattle.plan.specs.Network.{Query}
-use Rattle.plan.specs.Sheet.{Step, Steps}
-use Rattle.sheet_file.specs.InPlace.{place_at, count_at}
+use Rattle.plan.specs.Sheet.{Step}
+use Rattle.sheet_file.specs.InPlace.{count_at}
 use Rattle.rule_b.specs.Rule.{Is, RuleB, InOrder}
 use Rattle.network.specs.InFile.{leg_at}
 use Rattle.leg.specs.Ranges.{no_band}
 use Rattle.card.specs.declared.Card.{Card}
-use Rattle.card.specs.Card.{slot, never, Written, Kept, Carded}
+use Rattle.card.specs.declared.OwnedCard.{OwnedCard}
+use Rattle.card.specs.Card.{Blank, Written, Kept, Carded}
 use Rattle.card.specs.One.{begins}
 use Rattle.card.proofs.Filling.{carded, slot-first}
 use Rattle.rule_cards.specs.declared.leg_cards.LegCards.{LegCards}
-use Rattle.rule_cards.specs.declared.Place.{Place}
+use Rattle.rule_cards.specs.declared.place.Place.{Place}
+use Rattle.sheet_file.specs.Window.{of_window}
+use Rattle.rule_b.specs.Cursor.{steps_of}
 use Rattle.rule_cards.specs.Fit.{Slots}
-use Rattle.rule_cards.specs.Cards.{CardsOf, RuleIf, RuleAtAll, AllTested, Joins, OnCard}
+use Rattle.rule_cards.specs.Cards.{CardsOf, RuleIf, RuleAtAll, AllTested, HoldsSteps, Joins}
 use Rattle.rule_cards.proofs.Enough.{enough}
-use Rattle.rule_cards.proofs.Held.{ready, place-ordered, holds-steps, step-on-card, step-slot, bands-ordered, holds-tolls, band-on-card, band-slot}
-
--- a new card is blank
-pub blank-new : (n at k : ℕ) → at + k < n → slot (replicate n never) at k ≡ never
-blank-new n at k h = get_or-replicate n (at + k) never 0 h
+use Rattle.rule_cards.proofs.Held.{ready, place-ordered, holds-steps, step-slot, bands-ordered, holds-tolls, band-slot}
 
 -- the leg's bands on a card of their own
-pub new-card : (s : List ℕ) (bit count bands : ℕ) (minutes prices : List ℕ) → count ≡ bands → bands ≤ 8 → Written s bit 16 count minutes prices 0
-    → Kept (replicate 8 never) minutes 0 count → Carded s bit 16 bands (length minutes) minutes prices 0
-new-card s bit count bands minutes prices e few written kept =
-    let size : 8 ≡ length minutes = sym (kept.size ∙ length-replicate 8 never) in
-    let whole = carded s bit 16 count 8 (replicate 8 never) minutes prices 0 (omega arith) (λ k l. blank-new 8 0 k (omega arith)) written kept in
-    subst (λ (n : ℕ). Carded s bit 16 bands n minutes prices 0) size (subst (λ (n : ℕ). Carded s bit 16 n 8 minutes prices 0) e whole)
+pub new-card : (s : List ℕ) (bit count bands : ℕ) (old : List ℕ) (new : OwnedCard 8) (c : Card) → count ≡ bands → bands ≤ 8 → Blank old 0 8
+    → Written s bit 16 count new.minutes new.prices 0 → Kept old new.minutes 0 count
+    → c.minutes.now ≡ new.minutes → c.prices.now ≡ new.prices → length c.minutes.now ≡ 8 → Carded s bit 16 bands (length c.minutes.now) c.minutes.now c.prices.now 0
+new-card s bit count bands old new c e few blank written kept starts tolls size =
+    let whole = carded s bit 16 count 8 old new.minutes new.prices 0 (omega arith) blank written kept in
+    rw (sym e, size, starts, tolls) whole
 
 pub bands-ready : (net : List ℕ) (at : ℕ) → InOrder (leg_at net at) → (c : Card) → Carded net (at + 28) 16 (leg_at net at).count (length c.minutes.now) c.minutes.now c.prices.now 0
     → length c.minutes.now ≡ 8 → length c.prices.now ≡ 8 → Slots c 8
@@ -45,15 +43,12 @@ bands-ready net at order c card long long' = record {
 module _ (net : List ℕ) (at : ℕ) (order : InOrder (leg_at net at)) (c : LegCards) (steps bands : ℕ) (i j : List Step)
     (h : Joins c.from c.to steps i j) (bands-is : bands ≡ (leg_at net at).count) (time_is : c.time.0 ≡ field net (at + 12) 12)
     (card : Carded net (at + 28) 16 (leg_at net at).count (length c.bands.minutes.now) c.bands.minutes.now c.bands.prices.now 0) where
-  cards-of : CardsOf c steps bands i j (leg_at net at)
+  cards-of : CardsOf c i j (leg_at net at)
   cards-of = record {
     i_held = h.i_held;
     j_held = h.j_held;
     leg_held = holds-tolls net at order c.bands card;
     time_is = sym time_is;
-    step_is = h.step_is;
-    band_is = λ k l.
-        rw (sym (slot-first c.bands.minutes.now k), sym (slot-first c.bands.prices.now k)) (band-on-card net at order c.bands card k (omega (arith, bands-is)));
   }
 
   band-begins : (k : ℕ) → k < (leg_at net at).count → begins c.bands k ≡ (get_or (leg_at net at).bands k no_band).start.0
@@ -71,30 +66,32 @@ module _ (net : List ℕ) (at : ℕ) (order : InOrder (leg_at net at)) (c : LegC
   leg-tested b t = all-tested b (t i j (leg_at net at) cards-of)
 
 -- a place's steps on its card
-pub on-card : (s : List ℕ) (p : Place) → OnCard s p → count_at s p.bit ≤ 16
-    → Carded s (p.bit + 12) 32 (count_at s p.bit) (length p.card.minutes.now) p.card.minutes.now p.card.prices.now 0
-on-card s p h few = subst (λ (n : ℕ). Carded s (p.bit + 12) 32 (count_at s p.bit) n p.card.minutes.now p.card.prices.now 0) (sym h.room) (h.laid few)
+module _ (p : Place) (few : count_at p.steps.sheet.now p.steps.bit ≤ 16) where
+  pub on-card : Carded p.steps.sheet.now (p.steps.bit + 12) 32 (count_at p.steps.sheet.now p.steps.bit) (length p.card.minutes.now) p.card.minutes.now p.card.prices.now 0
+  on-card =
+      subst (λ (n : ℕ). Carded p.steps.sheet.now (p.steps.bit + 12) 32 (count_at p.steps.sheet.now p.steps.bit) n p.card.minutes.now p.card.prices.now 0) (sym p.laid.room) (p.laid.laid few)
 
-pub place-ready : (q : Query) (s : List ℕ) (p : Place) → Steps q (place_at s p.bit) → OnCard s p → count_at s p.bit ≤ 16 → Slots p.card 16
-place-ready q s p steps h few =
-    let card = on-card s p h few in
-    record {
-      ready = ready s (p.bit + 12) 32 (count_at s p.bit) p.card card (omega (arith, h.room)) (omega (arith, h.room, h.price_room)) (place-ordered q s p.bit steps p.card card);
-      size_is = h.room;
-    }
+  pub place-ready : Slots p.card 16
+  place-ready = record {
+    ready = ready p.steps.sheet.now (p.steps.bit + 12) 32 (count_at p.steps.sheet.now p.steps.bit) p.card on-card (omega (arith, p.laid.room)) (omega (arith, p.laid.room, p.laid.price_room))
+        (place-ordered (of_window p.steps.window) p.steps.sheet.now p.steps.bit p.steps.asked.steps p.card on-card);
+    size_is = p.laid.room;
+  }
+
+  holds : HoldsSteps p.card (steps_of p.steps)
+  holds = holds-steps (of_window p.steps.window) p.steps.sheet.now p.steps.bit p.steps.asked.steps p.card on-card
 
 -- and those of two places
-pub joined : (q : Query) (s : List ℕ) (from to : Place) → Steps q (place_at s from.bit) → Steps q (place_at s to.bit) → OnCard s from → OnCard s to
-    → count_at s from.bit ≤ 16 → count_at s to.bit ≤ 16 → (steps : ℕ) → steps ≡ count_at s from.bit
-    → Joins from.card to.card steps (place_at s from.bit) (place_at s to.bit)
-joined q s from to i-steps j-steps h h' i-few j-few steps e =
-    let i-card = on-card s from h i-few in
+pub joined : (from to : Place) → count_at from.steps.sheet.now from.steps.bit ≤ 16 → count_at to.steps.sheet.now to.steps.bit ≤ 16
+    → (steps : ℕ) → steps ≡ count_at from.steps.sheet.now from.steps.bit
+    → Joins from.card to.card steps (steps_of from.steps) (steps_of to.steps)
+joined from to i-few j-few steps e =
+    let s = from.steps.sheet.now in
+    let i-card = on-card from i-few in
     record {
-      i_held = holds-steps q s from.bit i-steps from.card i-card;
-      j_held = holds-steps q s to.bit j-steps to.card (on-card s to h' j-few);
-      step_is = λ k l.
-          rw (sym (slot-first from.card.minutes.now k), sym (slot-first from.card.prices.now k)) (step-on-card q s from.bit i-steps from.card i-card k (omega (arith, e)));
-      all = λ m is. let (k, low, at) = step-slot s from.bit from.card i-card m is in (k, omega (arith, e), at ∙ slot-first from.card.minutes.now k);
-      window = q;
-      falls = j-steps;
+      i_held = holds from i-few;
+      j_held = holds to j-few;
+      all = λ m is. let (k, low, at) = step-slot s from.steps.bit from.card i-card m is in (k, omega (arith, e), at ∙ slot-first from.card.minutes.now k);
+      window = of_window to.steps.window;
+      falls = to.steps.asked.steps;
     }

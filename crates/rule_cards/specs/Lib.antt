@@ -1,3 +1,4 @@
 pub mod Cards
 pub mod Fit
 pub mod Laid
+pub mod Unique

@@ -1,38 +1,29 @@
 // A sheet that was judged, with the cards of its places, kept together.
 ghost use Rattle.std.specs.Prelude.{◌≡◌, ◌<◌, get_or};
 ghost use Rattle.rule_cards.specs.Laid.{LaidOut};
-ghost use Rattle.rule_cards.specs.Cards.{OnCard};
+ghost use Rattle.rule_cards.specs.Unique.{laid_once};
 
-use crate::{Place, STEPS};
-use card::Card;
+use crate::Place;
+use card::OwnedCard;
+use sheet_file::SoundSheet;
 
+// The cards have a fixed size, and no heap: a card for each of 64 places, with 16 slots.
 #[derive(Clone, Copy)]
 pub struct LaidSheet<'a> {
-    pub sheet: &'a [u8],
-    // The bit at which each place's count of steps stands.
-    pub index: &'a [u32; 64],
-    pub places: usize,
-    // The cards of all places, one after the other.
-    pub minutes: &'a [u32],
-    pub prices: &'a [u32],
-    pub ghost laid: { LaidOut sheet.now places index.now minutes.now prices.now },
+    pub sheet: &'a SoundSheet<'a>,
+    pub cards: &'a [OwnedCard<16>; 64],
+    // Each place's steps are on its card, if it has room for them.
+    pub ghost laid: { LaidOut sheet.now.sheet.now sheet.now.places sheet.now.index cards.now } by { laid_once sheet.now.sheet.now sheet.now.places sheet.now.index cards.now },
 }
 
 impl<'a> LaidSheet<'a> {
     // A place, with its card.
     pub fn place(&self, p: usize) -> Place<'a>
-        requires { (p < 64) × (p < self.now.places) }
-        ensures { (result.bit ≡ get_or self.now.index.now p 0) × OnCard self.now.sheet.now result }
+        requires { p < self.now.sheet.now.places }
+        ensures { (result.steps.sheet ≡ self.now.sheet.now.sheet) × (result.steps.window ≡ self.now.sheet.now.window) × (result.steps.bit ≡ get_or self.now.sheet.now.index p 0) }
     {
-        let at = STEPS * p;
-        let end = at + STEPS;
-        let card = Card {
-            minutes: &self.minutes[at..end],
-            prices: &self.prices[at..end],
-        };
-        Place {
-            bit: self.index[p],
-            card,
-        }
+        let steps = self.sheet.place(p);
+        let card = self.cards[p].card();
+        Place { steps, card }
     }
 }

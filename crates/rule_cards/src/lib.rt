@@ -1,25 +1,26 @@
 // Rule (b) for one leg by cards: where both its places have few steps, their values are found by counting; else the steps are walked.
 #![tactic(auto)]
 
-ghost use Rattle.std.specs.Prelude.{◌+◌, ◌*◌, ◌≤◌, ◌<◌, ◌≡◌, length, replicate};
-ghost use Rattle.rule_b.specs.Rule.{Is, RuleB, InOrder};
-ghost use Rattle.network.specs.InFile.{leg_at, LegThere};
-ghost use Rattle.rule_b.specs.Cursor.{LegAsked};
+ghost use Rattle.std.specs.Prelude.{◌+◌, ◌*◌, ◌≤◌, ◌<◌, ◌≡◌, length};
+ghost use Rattle.rule_b.specs.Rule.{Is, RuleB};
+ghost use Rattle.rule_b.specs.Cursor.{leg_of, steps_of, LegAsked};
 ghost use Rattle.card.specs.Card.{Blank};
-ghost use Rattle.sheet_file.specs.InPlace.{place_at, count_at};
-ghost use Rattle.sheet_file.specs.Window.{of_window};
-ghost use Rattle.rule_cards.specs.Laid.{Laid, LaidOut, Inside};
+ghost use Rattle.sheet_file.specs.InPlace.{count_at};
+ghost use Rattle.rule_cards.specs.Laid.{Laid, AllBlank, LaidOut, Inside};
+ghost use Rattle.card.specs.One.{Ready};
 ghost use Rattle.rule_cards.specs.Fit.{Slots};
-ghost use Rattle.rule_cards.specs.Cards.{StepTested, BandTested, AllTested, LegTested, OnCard};
+ghost use Rattle.rule_cards.specs.Cards.{Tested, TestedOn, AllTested, LegTested};
 
 mod laid_sheet;
 mod leg_cards;
+mod place;
 
-use card::Card;
+use card::{Card, OwnedCard};
 pub use laid_sheet::LaidSheet;
 use leg::{Cents, Minute};
 use leg_cards::LegCards;
-use sheet_file::Window;
+use network::LegInFile;
+pub use place::Place;
 
 // How many steps a place's card has room for.
 const STEPS: usize = 16;
@@ -27,47 +28,34 @@ const STEPS: usize = 16;
 // How many bands a leg's card has room for.
 const BANDS: usize = 8;
 
-// A place of a sheet: the bit at which its count of steps stands, and its card, which they are on where they are few.
-#[derive(Clone, Copy)]
-pub struct Place<'a> {
-    pub bit: u32,
-    pub card: Card<'a>,
-}
-
 impl<'a> LegCards<'a> {
-    // The rule at step k of the place that the leg leaves.
-    fn step_obeys(self, k: usize) -> bool
-        requires { k < 16 }
-        ensures { StepTested self.entry k result }
+    // The rule at a departure, if it arrives by latest: what the three cards show is compared.
+    fn obeys_at(self, departure: Minute) -> bool
+        requires { departure.0 ≤ 4096 }
+        ensures { Tested self.entry departure.0 result }
     {
-        let departure = self.from.minutes[k];
-        let arrival = departure + self.time.0;
-        if self.latest.0 < arrival {
+        let arrival = Minute(departure.0 + self.time.0);
+        if self.latest < arrival {
             return true;
         }
-        let price = Cents(self.from.prices[k]);
-        let toll = self.bands.look(Minute(departure));
-        let there = self.to.look(Minute(arrival)); // after a step
-        rule_b::covered(Some(price), toll.unwrap_or(Cents(0)), there)
+        let here = self.from.look(departure);
+        let toll = self.bands.look(departure).unwrap_or(Cents(0));
+        let there = self.to.look(arrival);
+        rule_b::covered(here, toll, there)
     }
 
-    // The rule where band k starts. Not one with the test of a step: each is spared the look at the card that its departure stands on.
-    fn band_obeys(self, k: usize) -> bool
-        requires { k < 8 }
-        ensures { BandTested self.entry k result }
+    // The rule where each of the first `count` slots of a card begins. Inlined: so both calls know how many slots their cards have, and the counting is unrolled.
+    #[inline(always)]
+    fn obeys_on(self, card: Card<'_>, count: usize) -> bool
+        requires { Ready card × (count ≤ length card.minutes.now) }
+        ensures { TestedOn self.entry card.entry count result }
     {
-        let departure = self.bands.minutes[k];
-        let arrival = departure + self.time.0;
-        if self.latest.0 < arrival {
-            return true;
+        for k in 0..count {
+            if !self.obeys_at(Minute(card.minutes[k])) {
+                return false;
+            }
         }
-        let toll = Cents(self.bands.prices[k]);
-        let here = self.from.look(Minute(departure));
-        if here.is_none() {
-            return true; // no value at the departure, and no look at the arrival
-        }
-        let there = self.to.look(Minute(arrival)); // after a band's start
-        rule_b::covered(here, toll, there)
+        true
     }
 
     // The rule at the first `steps` steps of the place that the leg leaves, and where each of the leg's first `bands` bands starts.
@@ -75,93 +63,65 @@ impl<'a> LegCards<'a> {
         requires { (steps ≤ 16) × (bands ≤ 8) }
         ensures { AllTested self.entry steps bands result }
     {
-        for k in 0..steps {
-            if !self.step_obeys(k) {
-                return false;
-            }
-        }
-        for n in 0..bands {
-            if !self.band_obeys(n) {
-                return false;
-            }
-        }
-        true
+        self.obeys_on(self.from, steps) && self.obeys_on(self.bands, bands)
     }
 }
 
-// Rule (b) for the leg at a bit of the network, between two places whose steps are on cards.
+// Rule (b) for a leg between two places whose steps are on cards.
 fn cards_obey(
-    net: &[u8],
-    leg: usize,
+    leg: LegInFile<'_>,
     from: Card<'_>,
     to: Card<'_>,
     steps: usize,
     latest: Minute,
 ) -> bool
-    requires { LegThere net.now leg (leg_at net.now leg).count × InOrder (leg_at net.now leg) × Slots from 16 × Slots to 16 × (steps ≤ 16) × (latest.0 ≤ 2879) }
-    ensures { LegTested from.entry to.entry steps (leg_at net.now leg) latest.0 result }
+    requires { LegAsked (leg_of leg) latest.0 × Slots from 16 × Slots to 16 × (steps ≤ 16) }
+    ensures { LegTested from.entry to.entry steps (leg_of leg.entry) latest.0 result }
 {
-    let time = Minute(reader::field(net, leg + 12, 12));
-    let count = reader::field(net, leg + 24, 4) as usize;
-    let mut starts = [Minute::NEVER; BANDS];
-    let mut tolls = [0u32; BANDS];
-    card::fill::<16>(net, leg + 28, count, &mut starts, &mut tolls);
-    let bands = Card {
-        minutes: &starts,
-        prices: &tolls,
-    };
+    let time = leg.time();
+    let count = leg.count();
+    let mut bands = OwnedCard::<BANDS>::blank();
+    bands.fill::<16>(leg.net, leg.at + 28, count);
     let cards = LegCards {
         from,
         to,
-        bands,
+        bands: bands.card(),
         time,
         latest,
     };
     cards.obey(steps, count)
 }
 
-// Does the sheet obey rule (b) for the leg at a bit of the network, from one place of the sheet to another?
-pub fn leg_obeys(
-    net: &[u8],
-    leg: usize,
-    sheet: &[u8],
-    from: Place<'_>,
-    to: Place<'_>,
-    window: Window,
-) -> bool
-    requires { LegThere net.now leg (leg_at net.now leg).count × LegAsked sheet.now (leg_at net.now leg) from.bit to.bit (of_window window)
-        × OnCard sheet.now from × OnCard sheet.now to }
-    ensures { Is result (RuleB window.latest.0 (leg_at net.now leg) (place_at sheet.now from.entry.bit) (place_at sheet.now to.entry.bit)) }
+// Does the sheet obey rule (b) for a leg, from one of its places to another, up to the end of the window?
+pub fn leg_obeys(leg: LegInFile<'_>, from: Place<'_>, to: Place<'_>) -> bool
+    requires { LegAsked (leg_of leg) from.steps.window.latest.0 }
+    ensures { Is result (RuleB from.entry.steps.window.latest.0 (leg_of leg.entry) (steps_of from.entry.steps) (steps_of to.entry.steps)) }
 {
-    let steps = reader::field(sheet, from.bit as usize, 12) as usize;
-    let others = reader::field(sheet, to.bit as usize, 12) as usize;
-    if STEPS < steps.max(others) {
-        return rule_b::leg_obeys(net, leg, sheet, from.bit, to.bit, window);
+    let steps = from.steps.count();
+    if STEPS < steps.max(to.steps.count()) {
+        return rule_b::leg_obeys(leg, from.steps, to.steps);
     }
-    cards_obey(net, leg, from.card, to.card, steps, window.latest)
+    cards_obey(leg, from.card, to.card, steps, from.steps.window.latest)
 }
 
 // Puts the steps of the place whose count stands at a bit on its card, if it has room for them.
-fn lay_place(sheet: &[u8], place: u32, minutes: &mut [u32], prices: &mut [u32])
-    requires { (place + 12 + 44 * count_at sheet.now place ≤ 8 * length sheet.now) × (length minutes.old ≡ 16) × (length prices.old ≡ 16) × Blank minutes.old 0 16 }
-    ensures { Laid sheet.now place minutes.new prices.new 0 × (length minutes.new ≡ 16) × (length prices.new ≡ 16) }
+fn lay_place(sheet: &[u8], place: u32, card: &mut OwnedCard<16>)
+    requires { (place + 12 + 44 * count_at sheet.now place ≤ 8 * length sheet.now) × Blank card.old.minutes 0 16 }
+    ensures { Laid sheet.now place card.new.minutes card.new.prices }
 {
     let steps = reader::field(sheet, place as usize, 12) as usize;
     if STEPS < steps {
         return;
     }
-    let first = place as usize + 12;
-    card::fill::<32>(sheet, first, steps, minutes, prices);
+    card.fill::<32>(sheet, place as usize + 12, steps);
 }
 
-// The cards of all places.
-pub fn lay(sheet: &[u8], index: &[u32; 64], places: usize, minutes: &mut [u32], prices: &mut [u32])
-    requires { (places ≤ 64) × Inside sheet.now places index.now × (minutes.old ≡ replicate 1024 4096) × (length prices.old ≡ 1024) }
-    ensures { LaidOut sheet.now places index.now minutes.new prices.new }
+// The cards of all places. A sheet and its index apart: a judged sheet would ask more than that the steps lie in the file.
+pub fn lay(sheet: &[u8], index: &[u32; 64], places: u32, cards: &mut [OwnedCard<16>; 64])
+    requires { (places ≤ 64) × Inside sheet.now places index.now × AllBlank cards.old }
+    ensures { LaidOut sheet.now places index.now cards.new }
 {
-    for p in 0..places {
-        let at = STEPS * p;
-        let end = at + STEPS;
-        lay_place(sheet, index[p], &mut minutes[at..end], &mut prices[at..end]);
+    for p in 0..places as usize {
+        lay_place(sheet, index[p], &mut cards[p]);
     }
 }

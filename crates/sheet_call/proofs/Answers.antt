@@ -12,7 +12,7 @@ use Rattle.std.specs.Prelude.{Err}
 use Rattle.answer.specs.declared.Refusal.TheVariants.{Room}
 use Rattle.bits.specs.Field.{Put}
 use Rattle.bits.specs.Packed.{item}
-use Rattle.network.specs.declared.Size.{Size}
+use Rattle.network.specs.declared.sound_file.SoundFile.{SoundFile}
 use Rattle.plan.specs.Network.{Network, Query}
 use Rattle.plan.specs.Sheet.{Step, OurSheet}
 use Rattle.plan.specs.Table.{no_plan, width, cell_at}
@@ -63,42 +63,42 @@ room N q out bytes sheet ours given right is n size h =
       output_is = rw fits (bytes, is, ap (λ (k : ℕ). bytes ++ drop k out) (size ∙ sym is.size));
     }
 
-module _ (s : List ℕ) (size : Size) (a : Asked) (cells : List ℕ) (k : Tabled s size a cells) where
-  pub rows : Table cells (width (query_of a)) size.places
-  rows = record { few = few_places s size k.servable.sound; narrow = omega (arith, k.servable.last); all = k.room }
+module _ (file : SoundFile) (a : Asked) (cells : List ℕ) (k : Tabled file.net.now file.size a cells) where
+  pub rows : Table cells (width (query_of a)) file.size.places
+  rows = record { few = few_places file.net.now file.size file.sound; narrow = omega (arith, k.servable.last); all = k.room }
 
-  ours : OurSheet (theory_in s) (query_of a) (sheet_in cells (width (query_of a)) a.earliest.0 size.places)
+  ours : OurSheet (theory_in file.net.now) (query_of a) (sheet_in cells (width (query_of a)) a.earliest.0 file.size.places)
   ours =
-      let n = sym (places-are s size k.servable.sound) in
-      subst (λ (p : ℕ). OurSheet (theory_in s) (query_of a) (sheet_in cells (width (query_of a)) a.earliest.0 p)) n
-      (our-sheet (theory_in s) (query_of a) k.servable.asked cells
+      let n = sym (places-are file.net.now file.size file.sound) in
+      subst (λ (p : ℕ). OurSheet (theory_in file.net.now) (query_of a) (sheet_in cells (width (query_of a)) a.earliest.0 p)) n
+      (our-sheet (theory_in file.net.now) (query_of a) k.servable.asked cells
       (subst (λ (p : ℕ). p * width (query_of a) ≤ length cells) (sym n) k.room) k.table)
 
-  right-none : cell_at (query_of a) cells a.end a.latest.0 ≡ no_plan → Right (theory_in s) (query_of a) none_filed
-  right-none e = none (none-feasible (theory_in s) (query_of a) k.servable.asked (cell_at (query_of a) cells) k.table e)
+  right-none : cell_at (query_of a) cells a.end a.latest.0 ≡ no_plan → Right (theory_in file.net.now) (query_of a) none_filed
+  right-none e = none (none-feasible (theory_in file.net.now) (query_of a) k.servable.asked (cell_at (query_of a) cells) k.table e)
 
-  right-some : cell_at (query_of a) cells a.end a.latest.0 ≢ no_plan → Right (theory_in s) (query_of a) plan_filed
+  right-some : cell_at (query_of a) cells a.end a.latest.0 ≢ no_plan → Right (theory_in file.net.now) (query_of a) plan_filed
   unfolding Attained
   right-some n =
-      let w = (table-least (theory_in s) (query_of a) k.servable.asked (cell_at (query_of a) cells) k.table a.end a.latest.0
-      (at-end (theory_in s) (query_of a) k.servable.asked)).attained n in
+      let w = (table-least (theory_in file.net.now) (query_of a) k.servable.asked (cell_at (query_of a) cells) k.table a.end a.latest.0
+      (at-end (theory_in file.net.now) (query_of a) k.servable.asked)).attained n in
       some w.0 w.1
 
-  module _ (out : List ℕ) (n : ℕ) (w : Weighed cells (width (query_of a)) size.places n) where
+  module _ (out : List ℕ) (n : ℕ) (w : Weighed cells (width (query_of a)) file.size.places n) where
     -- 9
-    pub too_long : length out < n → Answered (theory_in s) (query_of a) out out (Err Room)
+    pub too_long : length out < n → Answered (theory_in file.net.now) (query_of a) out out (Err Room)
     too_long h = at (ℕ_discrete (cell_at (query_of a) cells a.end a.latest.0) no_plan)
       where
-        at : Dec (cell_at (query_of a) cells a.end a.latest.0 ≡ no_plan) → Answered (theory_in s) (query_of a) out out (Err Room)
-        at (yes e) = no_room (theory_in s) (query_of a) out _ ours none_filed (right-none e) (omega (arith, w.weight a.earliest.0))
-        at (no e) = no_room (theory_in s) (query_of a) out _ ours plan_filed (right-some e) (omega (arith, w.weight a.earliest.0))
+        at : Dec (cell_at (query_of a) cells a.end a.latest.0 ≡ no_plan) → Answered (theory_in file.net.now) (query_of a) out out (Err Room)
+        at (yes e) = no_room (theory_in file.net.now) (query_of a) out _ ours none_filed (right-none e) (omega (arith, w.weight a.earliest.0))
+        at (no e) = no_room (theory_in file.net.now) (query_of a) out _ ours plan_filed (right-some e) (omega (arith, w.weight a.earliest.0))
 
     module _ (h : n ≤ length out) (bytes : List ℕ)
-        (is : FileOf (sheet_in cells (width (query_of a)) a.earliest.0 size.places) bytes) where
+        (is : FileOf (sheet_in cells (width (query_of a)) a.earliest.0 file.size.places) bytes) where
       -- 10
-      pub no-plan : cell_at (query_of a) cells a.end a.latest.0 ≡ no_plan → Answered (theory_in s) (query_of a) out (bytes ++ drop n out) (none_filed n)
-      no-plan e = room (theory_in s) (query_of a) out bytes _ ours none_filed (right-none e) is n (w.weight a.earliest.0) h
+      pub no-plan : cell_at (query_of a) cells a.end a.latest.0 ≡ no_plan → Answered (theory_in file.net.now) (query_of a) out (bytes ++ drop n out) (none_filed n)
+      no-plan e = room (theory_in file.net.now) (query_of a) out bytes _ ours none_filed (right-none e) is n (w.weight a.earliest.0) h
 
       -- 0
-      pub done : cell_at (query_of a) cells a.end a.latest.0 ≢ no_plan → Answered (theory_in s) (query_of a) out (bytes ++ drop n out) (plan_filed n)
-      done e = room (theory_in s) (query_of a) out bytes _ ours plan_filed (right-some e) is n (w.weight a.earliest.0) h
+      pub done : cell_at (query_of a) cells a.end a.latest.0 ≢ no_plan → Answered (theory_in file.net.now) (query_of a) out (bytes ++ drop n out) (plan_filed n)
+      done e = room (theory_in file.net.now) (query_of a) out bytes _ ours plan_filed (right-some e) is n (w.weight a.earliest.0) h

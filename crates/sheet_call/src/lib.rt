@@ -1,11 +1,10 @@
 // The sheet call: the table filled as for the plan call, and then the least costs themselves as a sheet file.
 #![tactic(auto)]
 
-ghost use Rattle.std.specs.Prelude.{◌≡◌, List, ℕ, ◌+◌, ◌*◌, ◌≤◌, ◌<◌, length};
+ghost use Rattle.std.specs.Prelude.{◌≡◌, ◌+◌, ◌*◌, ◌≤◌, ◌<◌, length};
 ghost use Rattle.bits.specs.Packed.{bits_of};
 ghost use Rattle.plan_file.specs.PlanFile.{query_of};
 ghost use Rattle.plan_file.specs.Puts.{Puts};
-ghost use Rattle.tabled.specs.Comes.{asking};
 ghost use Rattle.tabled.specs.Tabled.{Tabled};
 ghost use Rattle.chart.specs.Net.{theory_in};
 ghost use Rattle.sheet_call.specs.Rows.{step_to, steps_of, sheet_in};
@@ -18,11 +17,11 @@ mod filled;
 use answer::{Filed, PlanAnswer, Refusal};
 use filled::Filled;
 use leg::{Cents, Minute};
-use network::Size;
+use network::SoundFile;
 use plan_file::Query;
 use walk::Table;
 
-// What such a cell shows for a cost: above every cost, so that the least so far begins with it.
+// What a cell without a plan shows for a cost: above every cost, so that the least so far begins with it, and needs no Option.
 const NO_COST: u32 = 67108863;
 
 // How many steps a row has.
@@ -53,7 +52,7 @@ fn weigh(table: &Filled) -> u32
     bits.div_ceil(8)
 }
 
-// One step.
+// One step, from bit `at` on (that its minute comes: see `leg::Minute`). No writer that holds its bit: a place's number of steps is put in front of them, once they are there.
 fn put_step(out: &mut [u8], at: usize, minute: Minute, price: Cents)
     requires { (minute.0 < 4096) × (at + 44 ≤ 8 * length out.old) × (at ≤ 20000000) }
     ensures { Puts out.old out.new at (step_fields (step_to minute.0 price.0)) }
@@ -97,72 +96,58 @@ fn put_place(row: &[u32], earliest: Minute, out: &mut [u8], at: usize) -> usize
 }
 
 // All places, behind edition and number of places.
-fn put_places(table: &Filled, earliest: Minute, out: &mut [u8])
-    requires { (earliest.0 + table.now.w ≤ 2880) × RoomAt out.old 15 (places_fields (sheet_in table.now.cells.now table.now.w earliest.0 table.now.places)) }
-    ensures { Puts out.old out.new 15 (places_fields (sheet_in table.now.cells.now table.now.w earliest.0 table.now.places)) }
+fn put_places(table: &Filled, out: &mut [u8])
+    requires { RoomAt out.old 15 (places_fields (sheet_in table.now.cells.now table.now.w table.now.earliest.0 table.now.places)) }
+    ensures { Puts out.old out.new 15 (places_fields (sheet_in table.now.cells.now table.now.w table.now.earliest.0 table.now.places)) }
 {
     let mut at = 15;
     for p in 0..table.places {
-        at = put_place(table.row(p), earliest, out, at);
+        at = put_place(table.row(p), table.earliest, out, at);
     }
 }
 
 // The file of the sheet that a filled table shows.
-fn write_sheet(table: &Filled, earliest: Minute, file: &mut [u8])
-    requires { (earliest.0 + table.now.w ≤ 2880) × (length file.old ≡ sheet_bytes (sheet_in table.now.cells.now table.now.w earliest.0 table.now.places)) }
-    ensures { FileOf (sheet_in table.now.cells.now table.now.w earliest.0 table.now.places) file.new }
+fn write_sheet(table: &Filled, file: &mut [u8])
+    requires { length file.old ≡ sheet_bytes (sheet_in table.now.cells.now table.now.w table.now.earliest.0 table.now.places) }
+    ensures { FileOf (sheet_in table.now.cells.now table.now.w table.now.earliest.0 table.now.places) file.new }
 {
     bits::clear(file);
     bits::put(file, 0, 8, 1);
     bits::put(file, 8, 7, table.places);
-    put_places(table, earliest, file);
+    put_places(table, file);
 }
 
 // From the filled table of some network: 9, or the file and 10 or 0.
-fn answer(size: Size, query: Query, cells: &[u32], out: &mut [u8]) -> PlanAnswer
-    requires { (net : List ℕ) × Tabled net size query cells.now }
-    ensures { (net : List ℕ) → Tabled net size query cells.now
-        → Answered (theory_in net) (query_of query) out.old out.new result }
+fn answer(file: SoundFile<'_>, table: Table<'_>, out: &mut [u8]) -> PlanAnswer
+    requires { Tabled file.net.now file.size table.query table.cells.now }
+    ensures { Answered (theory_in file.entry.net.now) (query_of table.entry.query) out.old out.new result }
 {
-    let earliest = query.earliest;
-    let latest = query.latest;
-    let w = (latest.0 - earliest.0 + 1) as usize;
-    let table = Filled {
-        cells,
-        w,
-        places: size.places,
+    let query = table.query;
+    let filled = Filled {
+        cells: table.cells,
+        earliest: query.earliest,
+        w: query.window().columns() as usize,
+        places: file.size.places,
     };
-    let bytes = weigh(&table);
+    let bytes = weigh(&filled);
     if out.len() < bytes as usize {
         return Err(Refusal::Room);
     }
-    write_sheet(&table, earliest, &mut out[..bytes as usize]);
-    let at_end = Table { cells, query }.cell(query.end, latest);
-    if at_end == rows::NO_PLAN {
+    write_sheet(&filled, &mut out[..bytes as usize]);
+    if table.cell(query.end, query.latest) == rows::NO_PLAN {
         return Ok(Filed::NoPlan(bytes));
     }
     Ok(Filed::Plan(bytes))
 }
 
-// THE SHEET CALL.
-pub fn sheet(
-    net: &[u8],
-    start: u32,
-    end: u32,
-    earliest: u32,
-    latest: u32,
-    table: &mut [u32],
-    out: &mut [u8],
-) -> PlanAnswer
-    ensures { Sheets net.now (asking start end earliest latest) table.old table.new
-        out.old out.new result }
+// THE SHEET CALL: the plan call with another answer. Why two functions: see there.
+pub fn sheet(net: &[u8], query: Query, table: &mut [u32], out: &mut [u8]) -> PlanAnswer
+    ensures { Sheets net.now (query_of query) table.old table.new out.old out.new result }
 {
-    let query = Query {
-        start,
-        end,
-        earliest: Minute(earliest),
-        latest: Minute(latest),
+    let file = tabled::fill_for(net, query, table)?;
+    let table = Table {
+        cells: table,
+        query,
     };
-    let size = tabled::fill_for(net, query, table)?;
-    answer(size, query, table, out)
+    answer(file, table, out)
 }

@@ -4,9 +4,8 @@ use Prim.Native.Nat.{ℕ, zero, suc, ◌+◌, ◌*◌, ◌-◌, ◌≤◌, ◌<�
 use native.Mathlib.Omega.{arith}
 use native.Mathlib.Decide.{ℕ_discrete}
 use mathlib.Core.Path.{◌≡◌, refl, sym, ◌∙◌, ap, subst}
-use mathlib.Core.Bool.{Bool, true, false}
+use mathlib.Core.Bool.{true, false}
 use Rattle.std.specs.Prelude.{None}
-use Rattle.std.specs.Bool.{then_some}
 use mathlib.Core.List.{List, [], ◌∷◌, ◌++◌}
 use borrow.Author.Tests.{leb-true, ltb-true}
 use lib.Dec.{leb, ltb}
@@ -21,8 +20,11 @@ use Rattle.network.proofs.Inversion.{check-step, field_step, inner-step}
 use Rattle.plan.specs.Network.{Minute, Cents, Query}
 use Rattle.plan.specs.Sheet.{Step, StepsAfter, Steps}
 use Rattle.sheet_file.specs.SheetFile.{step, steps, one_place, places, top, body, sheet_of, any_cost}
-use Rattle.sheet_file.specs.Window.{window}
-use Rattle.sheet_file.specs.InPlace.{place_at, count_at, Nothing, Indexed, Judged}
+use Rattle.leg.specs.declared.Window.{Window}
+use Rattle.sheet_file.specs.Window.{window, of_window}
+use Rattle.sheet_file.specs.InPlace.{place_at, count_at, Nothing, Indexed}
+use Rattle.sheet_file.specs.Asked.{Placed}
+use Rattle.sheet_file.specs.Judged.{Judged}
 use Rattle.sheet_file.proofs.Laws.{nothing-next, prepend, prepend-twice, prepend-nothing, next-prepend, prepend-none, nil}
 
 -- ---- a found step, and found steps
@@ -182,31 +184,28 @@ module _ (s : List ℕ) (q : Query) (n : ℕ) where
 
 -- ---- the whole file
 
-judged-nothing : (s : List ℕ) (n : ℕ) (x : Found (List (List Step))) → Nothing x → Judged s n x None
-judged-nothing s n (refused why) h = tt
-judged-nothing s n (found a at) h = absurd h
+judged-nothing : (s : List ℕ) (n : ℕ) (w : Window) (x : Found (List (List Step))) → Nothing x → Judged s n w x None
+judged-nothing s n w (refused why) h = tt
+judged-nothing s n w (found a at) h = absurd h
 
-module _ (s : List ℕ) (q : Query) (n : ℕ) where
-  pub judged-top : Nothing (top n (file_of s) 0) → Judged s n (sheet_of n q s) None
-  judged-top h = judged-nothing s n (sheet_of n q s) (nothing-next (top n (file_of s) 0) (λ _ at. body n q (file_of s) at) h)
+module _ (s : List ℕ) (w : Window) (n : ℕ) where
+  pub judged-top : Nothing (top n (file_of s) 0) → Judged s n w (sheet_of n (of_window w) s) None
+  judged-top h =
+      judged-nothing s n w (sheet_of n (of_window w) s) (nothing-next (top n (file_of s) 0) (λ _ at. body n (of_window w) (file_of s) at) h)
 
   module _ (t : top n (file_of s) 0 ≡ found tt 15) where
-    pub judged-places : Nothing (places n q (file_of s) 15) → Judged s n (sheet_of n q s) None
+    pub judged-places : Nothing (places n (of_window w) (file_of s) 15) → Judged s n w (sheet_of n (of_window w) s) None
     judged-places h =
-        judged-nothing s n (sheet_of n q s)
-        (subst (λ x. Nothing (next x (λ _ at. body n q (file_of s) at))) (sym t) (nothing-next (places n q (file_of s) 15) _ h))
+        judged-nothing s n w (sheet_of n (of_window w) s)
+        (subst (λ x. Nothing (next x (λ _ at. body n (of_window w) (file_of s) at))) (sym t) (nothing-next (places n (of_window w) (file_of s) 15) _ h))
 
-    pub judged-all : (sheet : List (List Step)) (end : ℕ) (index : List ℕ) → places n q (file_of s) 15 ≡ found sheet end → Indexed s n index sheet
-        → (ends : Bool) → ends ≡ (file_of s).ends end
-        → Judged s n (sheet_of n q s) (then_some ends index)
-    judged-all sheet end index p i ends e =
-        subst (λ x. Judged s n (next x (λ _ at. body n q (file_of s) at)) (then_some ends index)) (sym t)
-        (subst (λ x. Judged s n (next x (λ all at. next (pick ((file_of s).ends at) (found (tt {0}) at) (refused Tail)) (λ _ at'. found all at'))) (then_some ends index)) (sym p)
-        (subst (λ (b : Bool). Judged s n (next (pick b (found (tt {0}) end) (refused Tail)) (λ _ at'. found sheet at')) (then_some ends index)) e (last ends)))
-      where
-        last : (b : Bool) → Judged s n (next (pick b (found (tt {0}) end) (refused Tail)) (λ _ at'. found sheet at')) (then_some b index)
-        last true = i
-        last false = tt
+    module _ (sheet : List (List Step)) (end : ℕ) (p : places n (of_window w) (file_of s) 15 ≡ found sheet end) where
+      pub judged-tail : (file_of s).ends end ≡ false → Judged s n w (sheet_of n (of_window w) s) None
+      judged-tail e = judged-nothing s n w (sheet_of n (of_window w) s) (simp (t, p, e) tt)
+
+      -- the sheet that the file stands for
+      pub sheet-is : (file_of s).ends end ≡ true → sheet_of n (of_window w) s ≡ found sheet end
+      sheet-is e = simp (t, p, e)
 
 -- ---- what is found, for whoever reads on
 
@@ -224,14 +223,6 @@ sheet-window n q s =
     (λ _ at.
     next (places-window q (file_of s) n at i)
     (λ all at₁. next (pick ((file_of s).ends at₁) (found (tt {0}) at₁) (refused Tail)) (λ _ at₂. found all at₂)))
-
-after-window : (q : Query) (x : Step) (xs : List Step) → StepsAfter q x xs → StepsAfter (window q.earliest q.latest) x xs
-after-window q x [] h = h
-after-window q x (y ∷ ys) h = (h.0, h.1, after-window q y ys h.2)
-
-pub steps-window : (q : Query) (xs : List Step) → Steps q xs → Steps (window q.earliest q.latest) xs
-steps-window q [] h = tt
-steps-window q (x ∷ xs) h = (h.0, after-window q x xs h.1)
 
 steps-cons : (q : Query) (n : ℕ) (xs : List Step) (rest : List (List Step)) → Steps q xs → ((p : ℕ) → p < n → Steps q (get_or rest p []))
     → (p : ℕ) → p < suc n → Steps q (get_or (xs ∷ rest) p [])
@@ -278,3 +269,11 @@ sheet-size n q s sheet end e =
     let c = check-step sheet end ((file_of s).ends l.1) Tail l.1 _ l.3 in
     let same : l.0 ≡ sheet = cc c.1 in
     omega (arith, ap length same, places-size s q n t.1 l.0 l.1 l.2)
+
+-- EACH PLACE OF IT STANDS IN THE FILE, with steps as described
+pub placed : (n : ℕ) (q : Query) (s : List ℕ) (sheet : List (List Step)) (end : ℕ) (index : List ℕ) → n ≤ 64 → sheet_of n q s ≡ found sheet end
+    → Indexed s n index sheet → Placed s n q index
+placed n q s sheet end index few is i = record {
+  few = few;
+  each = λ p low. record { inside = i.inside p low; steps = subst (λ (xs : List Step). Steps q xs) (i.steps p low) (sheet-steps n q s sheet end is p low) };
+}

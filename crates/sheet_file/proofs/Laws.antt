@@ -1,12 +1,11 @@
 -- A step, and the steps of a place, one further: what the loops go by. Assumes nothing.
-use Prim.Native.Nat.{ℕ, zero, suc, ◌+◌, ◌*◌, ◌-◌, ◌≤◌, ◌<◌}
+use Prim.Native.Nat.{ℕ, zero, suc, ◌+◌, ◌*◌, ◌-◌, ◌<◌}
 use native.Mathlib.Omega.{arith}
-use native.Mathlib.Nat.{add_assoc}
 use native.Mathlib.Numerals.{add-one}
 use mathlib.Core.Path.{◌≡◌, refl, sym, ◌∙◌, ap}
 use mathlib.Core.Bool.{Bool, true, false}
 use mathlib.Core.List.{List, [], ◌∷◌, ◌++◌, append_assoc}
-use borrow.Author.Tests.{le-leb, lt-ltb, leb-true}
+use borrow.Author.Tests.{le-leb, leb-true}
 use lib.Dec.{leb, eqb}
 use lib.ListN.{length}
 use Rattle.answer.specs.declared.Refusal.{Refusal}
@@ -38,14 +37,6 @@ tested-true false x a at e t = cc
 pub tested-false : {A : Type 0} (b : Bool) (x : Found A) (a : A) (at : ℕ) → b ≡ false → Tested b x a at → Nothing x
 tested-false true x a at e t = let z : ◌≡◌ {A = ℕ} 0 1 = cc in absurd (omega arith)
 tested-false false x a at e t = t
-
--- one step, by the file's bits
-module _ (s : List ℕ) (at : ℕ) (low latest : Minute) (limit : Cents) where
-  pub step-sound : leb (at + 44) (8 * length s) ≡ true → low ≤ field s at 12 → field s at 12 ≤ latest → field s (at + 12) 32 < limit
-      → step low latest limit (file_of s) at ≡ found (step_at s at) (at + 44)
-  step-sound e l m p =
-      let first : leb (at + 12) (8 * length s) ≡ true = le-leb (at + 12) (8 * length s) (omega (arith, leb-true (at + 44) (8 * length s) e)) in
-      simp (first, le-leb low (field s at 12) l, le-leb (field s at 12) latest m, add_assoc at 12 32, e, lt-ltb (field s (at + 12) 32) limit p)
 
 -- what was found, after some that were found before
 abbrev pub prepend : {A : Type 0} → List A → Found (List A) → Found (List A)

@@ -1,5 +1,5 @@
 -- A sheet's steps where they stand in the file: what a reading in place goes by.
-use Rattle.std.specs.Prelude.{ℕ, zero, suc, ◌+◌, ◌*◌, ◌≤◌, ◌<◌, ◌≡◌, Bool, true, false, List, [], ◌∷◌, length, get_or, Option, Some, None}
+use Rattle.std.specs.Prelude.{ℕ, zero, suc, ◌+◌, ◌*◌, ◌≤◌, ◌<◌, ◌≡◌, Bool, true, false, List, [], ◌∷◌, length, get_or}
 use Rattle.bits.specs.Field.{field}
 use Rattle.network.specs.Reading.{Found, refused, found}
 use Rattle.plan.specs.Sheet.{Step}
@@ -36,10 +36,3 @@ pub record Indexed (s : List ℕ) (n : ℕ) (index : List ℕ) (sheet : List (Li
   pub size : length sheet ≡ n
   pub steps : (p : ℕ) → p < n → get_or sheet p [] ≡ place_at s (get_or index p 0)
   pub inside : (p : ℕ) → p < n → get_or index p 0 + 12 + 44 * count_at s (get_or index p 0) ≤ 8 * length s
-
--- what is found of a sheet file: where each place's count stands, if it is sound
-abbrev pub Judged : List ℕ → ℕ → Found (List (List Step)) → Option (List ℕ) → Type 0
-Judged s n (refused why) None = Unit {0}
-Judged s n (refused why) (Some index) = ⊥
-Judged s n (found sheet at) None = ⊥
-Judged s n (found sheet at) (Some index) = Indexed s n index sheet

@@ -4,7 +4,7 @@ use Rattle.source.specs.Source.{file_of}
 use Rattle.plan.specs.Network.{Minute, Cents, Query}
 use Rattle.network.specs.Reading.{found}
 use Rattle.sheet_file.specs.declared.Step.{Step}
-use Rattle.sheet_file.specs.declared.Window.{Window}
+use Rattle.leg.specs.declared.Window.{Window}
 use Rattle.sheet_file.specs.SheetFile.{step, steps, one_place, any_cost}
 use Rattle.sheet_file.specs.InPlace.{step_at, steps_at, place_at, count_at, Nothing}
 

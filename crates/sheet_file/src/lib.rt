@@ -4,20 +4,19 @@
 ghost use Rattle.std.specs.Prelude.{◌≤◌};
 ghost use Rattle.source.specs.Source.{file_of};
 ghost use Rattle.sheet_file.specs.SheetFile.{top, sheet_of};
-ghost use Rattle.sheet_file.specs.InPlace.{Tested, Judged};
+ghost use Rattle.sheet_file.specs.InPlace.{Tested};
+ghost use Rattle.sheet_file.specs.Judged.{Judged};
 ghost use Rattle.sheet_file.specs.Window.{StepIs, StepsAre, PlaceIs, of_window};
 
-use leg::{Cents, Minute};
+mod sheet_place;
+mod sound_sheet;
+
+use leg::{Cents, Minute, Window};
+pub use sheet_place::SheetPlace;
+pub use sound_sheet::SoundSheet;
 
 // A place has at most one step a minute.
 const MOST_STEPS: usize = Minute::COUNT as usize;
-
-// The minutes that a sheet is asked about.
-#[derive(Clone, Copy)]
-pub struct Window {
-    pub earliest: Minute,
-    pub latest: Minute,
-}
 
 // A step of a sheet: from its minute on a place has this value.
 #[derive(Clone, Copy)]
@@ -35,17 +34,18 @@ fn step_from(sheet: &[u8], at: usize, low: Minute, latest: Minute, limit: u64) -
         return None;
     }
     let (minute, price) = reader::pair(sheet, at, 12, 32);
-    if minute < low.0 {
+    let minute = Minute(minute);
+    if minute < low {
         return None;
     }
-    if latest.0 < minute {
+    if latest < minute {
         return None;
     }
     if limit <= u64::from(price) {
         return None;
     }
     Some(Step {
-        minute: Minute(minute),
+        minute,
         price: Cents(price),
     })
 }
@@ -91,10 +91,10 @@ fn top_sound(sheet: &[u8], places: u32) -> bool
     reader::field(sheet, 0, 8) == 1 && reader::field(sheet, 8, 7) == places
 }
 
-// A whole sheet file, if it is sound: the bit where each place's count of steps stands.
-pub fn sheet_from(sheet: &[u8], places: u32, window: Window) -> Option<[u32; 64]>
+// A whole sheet file, if it is sound.
+pub fn sheet_from<'a>(sheet: &'a [u8], places: u32, window: Window) -> Option<SoundSheet<'a>>
     requires { places ≤ 64 }
-    ensures { Judged sheet.now places (sheet_of places (of_window window) sheet.now) result }
+    ensures { Judged sheet.now places window (sheet_of places (of_window window) sheet.now) result }
 {
     if !top_sound(sheet, places) {
         return None;
@@ -105,5 +105,13 @@ pub fn sheet_from(sheet: &[u8], places: u32, window: Window) -> Option<[u32; 64]
         index[k] = place as u32;
         place = place_from(sheet, place, window)?;
     }
-    reader::ends(sheet, place).then_some(index)
+    if !reader::ends(sheet, place) {
+        return None;
+    }
+    Some(SoundSheet {
+        sheet,
+        places,
+        window,
+        index,
+    })
 }

@@ -55,6 +55,15 @@ head_widths = 6 ∷ 6 ∷ 12 ∷ 4 ∷ []
 abbrev pub band_widths : List ℕ
 band_widths = 12 ∷ 16 ∷ []
 
+-- the fields of these widths that stand one after another in a file, from a bit on
+abbrev pub fields_at : List ℕ → ℕ → List ℕ → List ℕ
+fields_at s at [] = []
+fields_at s at (w ∷ ws) = field s at w ∷ fields_at s (at + w) ws
+
+-- x is so many bits, and in it stand fields of these widths, with these values: wherever x is what stands in a file, they are the fields there
+abbrev pub Parts : ℕ → ℕ → List ℕ → List ℕ → Type 0
+Parts x size widths values = (s : List ℕ) (at : ℕ) → x ≡ field s at size → values ≡ fields_at s at widths
+
 -- of four fields that end so many bits after `at`, the first `have` end before `end`
 pub record Whole (end at first second third fourth have : ℕ) : Type 0 where
   pub one : leb (at + first) end ≡ ltb 0 have

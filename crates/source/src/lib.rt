@@ -1,13 +1,16 @@
 // Fields from a file or from a list of numbers, several at once: one load for a leg's four fields, one for a band's two.
+// That a place is at most 1,000,000 is asked in each contract, the trait's too, and is no type: it keeps sums from overflowing, and the bound differs from one
+// function to the next: `network` asks for 900,000 before a leg's bands and for 800,000 before a leg, so that a place that has moved on is still within it.
 #![tactic(auto)]
 
 ghost use Rattle.std.specs.Prelude.{◌≡◌, ℕ, [], ◌∷◌, ◌+◌, ◌-◌, ◌*◌, ◌≤◌, length, get_or};
 ghost use Rattle.bits.specs.Field.{field};
-ghost use Rattle.source.specs.Source.{Source, file_of, list_of, Whole, top_widths, head_widths, band_widths, Fetched, Listed, HeadFields, BandFields};
+ghost use Rattle.source.specs.Source.{Source, file_of, list_of, Whole, top_widths, head_widths, band_widths, Parts, Fetched, Listed, HeadFields, BandFields};
 ghost use Rattle.std.proofs.Math.Nat.{le_refl, add-le-add};
 
-// Up to four fields: the first `have` of them are there, the others count as 0. `after` is the place after the last that was asked for.
-// Four numbers and a count, not four Options: they are cut out of one load, and one test settles how many are there.
+// Up to four fields: how many are there, or more than were asked for; one that is not counts as 0. `after` is the place after the last that was asked for.
+// Four numbers and a count, not four Options: they are cut out of one load, where one test settles that all are there, and each reader tests the count as it comes to
+// a field.
 #[derive(Clone, Copy)]
 pub struct Fields {
     pub have: usize,
@@ -34,7 +37,7 @@ fn padded(net: &[u8], at: usize, width: usize) -> u32
     reader::field(net, at, left) << (width - left)
 }
 
-// How many of four fields, which end so many bits after `at`, are there.
+// How many of four fields, which end so many bits after `at`, are there. Four numbers: each call writes them, and a list would have to say that they rise.
 fn whole(net: &[u8], at: usize, first: usize, second: usize, third: usize, fourth: usize) -> usize
     requires { (at ≤ 1000000) × (first ≤ second) × (second ≤ third) × (third ≤ fourth) × (fourth ≤ 32) }
     ensures { Whole (8 * length net.now) at first second third fourth result }
@@ -69,40 +72,77 @@ fn top_in_file(net: &[u8]) -> Fields
     }
 }
 
-// The head of a leg: from 6, to 6, driving time 12, bands 4. One load, but near the end of the file.
+// The same as `load`, where fewer than eight bytes are left: a function of its own and not inlined, so that `load` is small and is inlined.
+#[inline(never)]
+fn load_near_end(net: &[u8], at: usize, first: usize, second: usize, third: usize) -> (u32, usize)
+    requires { (at ≤ 1000000) × (first ≤ second) × (second ≤ third) × (third ≤ 28) }
+    ensures { (result.0 ≡ field net.now at 28) × Whole (8 * length net.now) at first second third 28 result.1 }
+{
+    (
+        padded(net, at, 28),
+        whole(net, at, first, second, third, 28),
+    )
+}
+
+// The 28 bits of a leg's head or of a band, and how many of their fields are there, which end so many bits after `at`. One load, but near
+// the end of the file.
+fn load(net: &[u8], at: usize, first: usize, second: usize, third: usize) -> (u32, usize)
+    requires { (at ≤ 1000000) × (first ≤ second) × (second ≤ third) × (third ≤ 28) }
+    ensures { (result.0 ≡ field net.now at 28) × Whole (8 * length net.now) at first second third 28 result.1 }
+{
+    if at / 8 + 8 <= net.len() {
+        return (reader::field(net, at, 28), 4);
+    }
+    load_near_end(net, at, first, second, third)
+}
+
+// The fields in the 28 bits of a leg's head: from 6, to 6, driving time 12, bands 4.
+pub fn head_parts(x: u32) -> [u32; 4]
+    ensures { Parts x 28 head_widths result }
+{
+    [
+        x / 0x40_0000 % 0x40,
+        x / 0x1_0000 % 0x40,
+        x / 0x10 % 0x1000,
+        x % 0x10,
+    ]
+}
+
+// The fields in the 28 bits of a band: start 12, toll 16.
+pub fn band_parts(x: u32) -> [u32; 2]
+    ensures { Parts x 28 band_widths result }
+{
+    [x / 0x1_0000 % 0x1000, x % 0x1_0000]
+}
+
+// The head of a leg.
 fn head_in_file(net: &[u8], at: usize) -> Fields
     requires { at ≤ 1000000 }
     ensures { HeadFields net.now at result }
 {
-    let (x, have) = if at / 8 + 8 <= net.len() {
-        (reader::field(net, at, 28), 4)
-    } else {
-        (padded(net, at, 28), whole(net, at, 6, 12, 24, 28))
-    };
+    let (x, have) = load(net, at, 6, 12, 24);
+    let [a, b, c, d] = head_parts(x);
     Fields {
         have,
-        a: x / 0x40_0000,
-        b: x / 0x1_0000 % 0x40,
-        c: x / 0x10 % 0x1000,
-        d: x % 0x10,
+        a,
+        b,
+        c,
+        d,
         after: at + 28,
     }
 }
 
-// A band: start 12, toll 16. One load, but near the end of the file.
+// A band.
 fn band_in_file(net: &[u8], at: usize) -> Fields
     requires { at ≤ 1000000 }
     ensures { BandFields net.now at result }
 {
-    let (x, have) = if at / 8 + 8 <= net.len() {
-        (reader::field(net, at, 28), 4)
-    } else {
-        (padded(net, at, 28), whole(net, at, 12, 28, 28, 28))
-    };
+    let (x, have) = load(net, at, 12, 28, 28);
+    let [a, b] = band_parts(x);
     Fields {
         have,
-        a: x / 0x1_0000,
-        b: x % 0x1_0000,
+        a,
+        b,
         c: 0,
         d: 0,
         after: at + 28,

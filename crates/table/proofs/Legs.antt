@@ -61,17 +61,17 @@ module _ (g : Roads) (row cells low : List ℕ) (from l : ℕ) (known : l < g.ta
         omega (arith, this-sound.to_below, v.kept.places),
       )
 
-  onward : (cells' : List ℕ) (first : ℕ) → Rode x g.ask.earliest.0 (columns g.ask) from cells cells' row first 0 2880
+  onward : (cells' : List ℕ) (first : ℕ) → Rode x g.ask.window.earliest.0 (columns g.ask) from cells cells' row first 0 2880
       → Dec (first < columns g.ask) → (set low x.to (min (at low x.to) first) ≡ low) ⊎ (sum cells' < sum cells)
   onward cells' first r (yes h) = inr (r.less h)
   onward cells' first r (no h) =
       let same : min (at low x.to) first ≡ at low x.to = omega (arith, v.kept.lows x.to) in
       inl (rw same (set-get_or low x.to 0))
 
-  pub leg-done : (cells' low' : List ℕ) → RodeOut x g.ask.earliest.0 w from cells cells' row low low'
+  pub leg-done : (cells' low' : List ℕ) → RodeOut x g.ask.window.earliest.0 w from cells cells' row low low'
       → Visiting (theory_in g.tariff.now.net.now) (query g.ask) cells' low' row ((theory_in g.tariff.now.net.now).source l) from l × Onward cells cells' low low'
   leg-done cells' low' o =
-      let r : Rode x g.ask.earliest.0 (columns g.ask) from cells cells' row o.first 0 2880 = rw wide at o.rode in
+      let r : Rode x g.ask.window.earliest.0 (columns g.ask) from cells cells' row o.first 0 2880 = rw wide at o.rode in
       rw o.noted (
         visiting-rode (theory_in g.tariff.now.net.now) (query g.ask) (in-range g.tariff.now) cells cells' low row _ from l o.first x v
             (known-leg g.tariff.now l known) refl (leg-of g.tariff.now.net.now l x decoded)

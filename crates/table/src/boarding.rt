@@ -3,9 +3,10 @@ ghost use Rattle.std.specs.Prelude.{◌≡◌, ◌+◌, ◌*◌, ◌-◌, ◌≤
 ghost use Rattle.table.specs.Ride.{Banded, band_start, Rode, RodeOut};
 
 use leg::{Cents, Leg, Minute};
+use rows::Rides;
 
 // A leg, the window as its first minute and its number of columns, the row of the place that the leg leaves, and the first column from
-// which that row is to be ridden.
+// which that row is to be ridden. The number of columns and no `Window`: each ride reckons with it.
 #[derive(Clone, Copy)]
 pub struct Boarding<'a> {
     pub leg: Leg,
@@ -29,29 +30,28 @@ impl<'a> Boarding<'a> {
         minute.0.saturating_sub(self.earliest.0) as usize
     }
 
-    // Rides in band k: the first column of the target's row that changed, or w.
+    // Rides in band k: the first column of the target's row that changed, or w. With w for "nothing changed" the bands, and then the legs,
+    // are joined by the minimum: w is neutral for it.
     fn ride_band(&self, k: usize, cells: &mut [u32]) -> usize
         requires { (k < self.now.leg.count) × (self.now.leg.to * self.now.w + self.now.w ≤ length cells.old) }
         ensures { Rode self.now.leg self.now.earliest.0 self.now.w self.now.from cells.old cells.new self.now.row.now result (band_start self.now.leg k) (band_start self.now.leg (k + 1)) }
     {
         let time = self.leg.time.0 as usize;
-        let begin = self.from.max(self.column(band_start(self.leg, k)));
+        let from = self.from.max(self.column(band_start(self.leg, k)));
         let until = self
             .column(band_start(self.leg, k + 1))
             .min(self.w.saturating_sub(time));
-        if until <= begin {
+        if until <= from {
             return self.w;
         }
-        rows::lower_row(
-            cells,
-            self.w,
-            self.leg.to as usize,
-            self.row,
-            begin,
+        let rides = Rides {
+            row: self.row,
+            from,
             until,
             time,
-            adds(self.leg.bands[k].toll),
-        )
+            add: adds(self.leg.bands[k].toll),
+        };
+        rows::lower_row(cells, self.w, self.leg.to as usize, rides)
     }
 
     // Rides band by band: the first column of the target's row that changed, or w.

@@ -26,7 +26,7 @@ impl<'a> Roads<'a> {
     pub fn width(&self) -> usize
         ensures { result ≡ columns self.now.ask }
     {
-        (self.ask.latest.0 - self.ask.earliest.0 + 1) as usize
+        self.ask.window.columns() as usize
     }
 
     // Rides along leg l from the settled row of the place that it leaves. A row has room for any window: it is as long as the clock.
@@ -43,7 +43,7 @@ impl<'a> Roads<'a> {
     {
         let board = Boarding {
             leg: self.tariff.leg(l),
-            earliest: self.ask.earliest,
+            earliest: self.ask.window.earliest,
             w: self.width(),
             row,
             from,
@@ -63,10 +63,11 @@ impl<'a> Roads<'a> {
         requires { (p < self.now.tariff.now.size.places) × Visiting (theory_in self.now.tariff.now.net.now) (query self.now.ask) cells.old low.old row.now p from self.now.tariff.now.size.legs }
         ensures { Visited (theory_in self.now.tariff.now.net.now) (query self.now.ask) cells.old cells.new low.old low.new }
     {
+        // No `for`: the legs are followed along the chain, each naming the next.
         let mut next = self.chains.last[p];
         while let Some(l) = next {
-            self.ride_leg(l, row, from, cells, low);
-            next = self.chains.before[l];
+            self.ride_leg(l as usize, row, from, cells, low);
+            next = self.chains.before[l as usize];
         }
     }
 
@@ -89,6 +90,7 @@ impl<'a> Roads<'a> {
     {
         let places = self.tariff.size.places as usize;
         let w = self.width();
+        // No `for`: nothing is counted, it ends when no place is new.
         let mut from = 0;
         while let Some(p) = crate::next(low, from, places, w) {
             self.visit(p, row, cells, low);

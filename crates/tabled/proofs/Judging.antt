@@ -1,12 +1,12 @@
 -- What the tests before planning tell.
 use Prim.Native.Nat.{ℕ, ◌*◌, ◌≤◌, ◌<◌}
 use native.Mathlib.Omega.{arith}
-use borrow.Author.Tests.{leb-true, ltb-true}
+use borrow.Author.Tests.{leb-true}
 use mathlib.Core.Path.{◌≡◌, refl, sym, ap, ◌∙◌}
 use mathlib.Core.Logic.{◌⊎◌, inl, inr}
 use mathlib.Core.Bool.{Bool, true, false}
 use mathlib.Core.List.{List}
-use lib.Dec.{leb, ltb}
+use lib.Dec.{leb}
 use Rattle.answer.specs.declared.Refusal.{Refusal}
 use Rattle.answer.specs.declared.Refusal.TheVariants.{Query as NoSuchQuery, Window, Cells}
 use Rattle.std.specs.Prelude.{Ok, Err}
@@ -16,6 +16,8 @@ use Rattle.network.specs.Network.{Network as FileNetwork, of_file}
 use Rattle.network.specs.Answers.{size_of, network_found}
 use Rattle.plan.specs.Network.{Query, Askable}
 use Rattle.plan.specs.Table.{width}
+use Rattle.plan_file.specs.Known.{known}
+use Rattle.plan_file.proofs.Known.{is-known}
 use Rattle.chart.specs.Net.{theory_in}
 use Rattle.chart.proofs.Net.{in-file, places-are, ranges}
 use Rattle.std.specs.Prelude.{Result}
@@ -36,19 +38,17 @@ one-test false x why e = let z : ◌≡◌ {A = ℕ} 0 1 = cc in absurd (omega a
 
 pub passed : (places : ℕ) (q : Query) (cells : ℕ) → judgement places q cells ≡ Ok tt → Passed places q cells
 passed places q cells e =
-    let t₁ = one-test (ltb q.start places) _ NoSuchQuery e in
-    let t₂ = one-test (ltb q.end places) _ NoSuchQuery t₁.1 in
-    let t₃ = one-test (leb q.earliest 2879) _ NoSuchQuery t₂.1 in
-    let t₄ = one-test (leb q.latest 2879) _ NoSuchQuery t₃.1 in
-    let t₅ = one-test (leb q.earliest q.latest) _ Window t₄.1 in
-    let t₆ = one-test (leb (places * width q) cells) _ Cells t₅.1 in
+    let t₁ = one-test (known places q) _ NoSuchQuery e in
+    let t₂ = one-test (leb q.earliest q.latest) _ Window t₁.1 in
+    let t₃ = one-test (leb (places * width q) cells) _ Cells t₂.1 in
+    let k = is-known places q t₁.0 in
     record {
-      start = ltb-true _ _ t₁.0;
-      end = ltb-true _ _ t₂.0;
-      earliest = leb-true _ _ t₃.0;
-      latest = leb-true _ _ t₄.0;
-      window = leb-true _ _ t₅.0;
-      room = leb-true _ _ t₆.0;
+      start = k.start;
+      end = k.end;
+      earliest = k.earliest;
+      latest = k.latest;
+      window = leb-true _ _ t₂.0;
+      room = leb-true _ _ t₃.0;
     }
 
 -- a network that was refused

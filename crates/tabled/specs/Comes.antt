@@ -7,10 +7,6 @@ use Rattle.plan.specs.Network.{Network, Query}
 use Rattle.plan.specs.Table.{width, cell_at, MinuteTable}
 use Rattle.tabled.specs.Judge.{Judged, refuse, serve}
 
--- the query that the four numbers make
-abbrev pub asking : ℕ → ℕ → ℕ → ℕ → Query
-asking start end earliest latest = record { start = start; end = end; earliest = earliest; latest = latest }
-
 -- answers 1 to 8 touch nothing
 pub record Untouched (why : PlanAnswer) (table table' out out' : List ℕ) (answer : PlanAnswer) : Type 0 where
   pub answer_is : answer ≡ why

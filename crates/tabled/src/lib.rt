@@ -7,10 +7,8 @@ ghost use Rattle.tabled.specs.Judge.{judgement};
 ghost use Rattle.tabled.specs.Tabled.{Fills};
 
 use answer::Refusal;
-use leg::Minute;
-use network::Size;
+use network::SoundFile;
 use plan_file::Query;
-use source::File;
 
 // How many cells a table has.
 fn area(places: u32, width: u32) -> usize
@@ -20,46 +18,35 @@ fn area(places: u32, width: u32) -> usize
     (places * width) as usize
 }
 
-// 6, 7 and 8.
-fn judge(size: Size, query: Query, room: usize) -> Result<(), Refusal>
-    requires { size.places ≤ 64 }
-    ensures { result ≡ judgement size.places (query_of query) room }
+// 6, 7 and 8. The gate has the first two: see there.
+fn judge_query(places: u32, query: Query, room: usize) -> Result<(), Refusal>
+    requires { places ≤ 64 }
+    ensures { result ≡ judgement places (query_of query) room }
 {
-    if size.places <= query.start {
+    if !query.known(places) {
         return Err(Refusal::Query);
     }
-    if size.places <= query.end {
-        return Err(Refusal::Query);
-    }
-    if Minute::LAST < query.earliest.0 {
-        return Err(Refusal::Query);
-    }
-    if Minute::LAST < query.latest.0 {
-        return Err(Refusal::Query);
-    }
-    if query.latest.0 < query.earliest.0 {
+    if query.latest < query.earliest {
         return Err(Refusal::Window);
     }
-    if room < area(size.places, query.latest.0 - query.earliest.0 + 1) {
+    if room < area(places, query.window().columns()) {
         return Err(Refusal::Cells);
     }
     Ok(())
 }
 
-// Refused with 1 to 8 and the table as it was; or its first places × W cells are filled for the network, which is of this size.
-pub fn fill_for(net: &[u8], query: Query, table: &mut [u32]) -> Result<Size, Refusal>
+// Refused with 1 to 8 and the table as it was; or its first places × W cells are filled for the file's network.
+pub fn fill_for<'a>(
+    net: &'a [u8],
+    query: Query,
+    table: &mut [u32],
+) -> Result<SoundFile<'a>, Refusal>
     ensures { Fills net.now query table.old table.new result }
 {
-    let size = network::network_from(&File(net))?;
-    judge(size, query, table.len())?;
-    let cells = area(size.places, query.latest.0 - query.earliest.0 + 1);
-    table::fill(
-        net,
-        size,
-        query.start,
-        query.earliest,
-        query.latest,
-        &mut table[..cells],
-    );
-    Ok(size)
+    let file = network::judge(net)?;
+    judge_query(file.size.places, query, table.len())?;
+    let window = query.window();
+    let cells = area(file.size.places, window.columns());
+    table::fill(file, query.start, window, &mut table[..cells]);
+    Ok(file)
 }

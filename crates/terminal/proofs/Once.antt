@@ -3,9 +3,7 @@ use Prim.Native.Nat.{ℕ}
 use mathlib.Core.Path.{◌≡◌, sym, ◌∙◌, ap}
 use mathlib.Core.List.{List}
 use Rattle.answer.specs.Numbers.{Answer}
-use Rattle.std.specs.Prelude.{Ok, Err}
-use Rattle.answer.specs.Plans.{PlanAnswer, plan_filed, none_filed}
-use Rattle.std.specs.Prelude.{Ok, Err}
+use Rattle.answer.specs.Plans.{PlanAnswer}
 use Rattle.answer.specs.Numbers.{answer_number, answer_length}
 use Rattle.answer.specs.Plans.{plan_number, plan_length}
 use Rattle.plan.specs.Network.{Query}

@@ -1,10 +1,8 @@
 -- What comes back over the C names: the number and the length of an answer that keeps the call's promise.
 use Rattle.std.specs.Prelude.{ℕ, ◌≡◌}
 use Rattle.answer.specs.Numbers.{Answer}
-use Rattle.std.specs.Prelude.{Ok, Err}
 use Rattle.answer.specs.Numbers.{answer_number, answer_length}
-use Rattle.answer.specs.Plans.{PlanAnswer, plan_filed, none_filed}
-use Rattle.std.specs.Prelude.{Ok, Err}
+use Rattle.answer.specs.Plans.{PlanAnswer}
 use Rattle.answer.specs.Plans.{plan_number, plan_length}
 use Rattle.gate.specs.Gate.{GateAnswer}
 use Rattle.terminal.specs.declared.Reply.{Reply}

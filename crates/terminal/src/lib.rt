@@ -2,17 +2,17 @@
 #![tactic(auto)]
 
 ghost use Rattle.std.specs.Prelude.{◌≡◌};
-ghost use Rattle.answer.specs.Numbers.{answer_number, answer_length};
-ghost use Rattle.answer.specs.Plans.{plan_number, plan_length};
+ghost use Rattle.answer.specs.Numbers.{number_by, length_by};
 ghost use Rattle.read_call.specs.Read.{Reads};
 ghost use Rattle.write_call.specs.Write.{Writes};
-ghost use Rattle.tabled.specs.Comes.{asking};
+ghost use Rattle.plan.specs.Network.{asking};
 ghost use Rattle.plan_call.specs.Call.{Plans};
 ghost use Rattle.sheet_call.specs.Sheet.{Sheets};
 ghost use Rattle.gate.specs.Gate.{GateSays};
 ghost use Rattle.terminal.specs.Reply.{Replies, PlanReplies, Says};
 
-use answer::{Answer, PlanAnswer};
+use answer::{Done, Refusal};
+use plan_file::Query;
 
 // What comes back: the paper's number, and the length of what was written.
 #[repr(C)]
@@ -22,24 +22,13 @@ pub struct Reply {
     pub length: u32,
 }
 
-impl From<Answer> for Reply {
-    ghost from_gives = { λ answer reply. (reply.number ≡ answer_number answer) × (reply.length ≡ answer_length answer) };
+impl<T: Done + Copy> From<Result<T, Refusal>> for Reply {
+    ghost from_gives = { λ answer reply. (reply.number ≡ number_by T.number_is answer) × (reply.length ≡ length_by T.length_is answer) };
 
-    fn from(answer: Answer) -> Reply {
+    fn from(answer: Result<T, Refusal>) -> Reply {
         Reply {
             number: answer::number(answer),
             length: answer::length(answer),
-        }
-    }
-}
-
-impl From<PlanAnswer> for Reply {
-    ghost from_gives = { λ answer reply. (reply.number ≡ plan_number answer) × (reply.length ≡ plan_length answer) };
-
-    fn from(answer: PlanAnswer) -> Reply {
-        Reply {
-            number: answer::plan_number(answer),
-            length: answer::plan_length(answer),
         }
     }
 }
@@ -58,7 +47,7 @@ pub fn haul_write(list: &[u32], out: &mut [u8]) -> Reply
     Reply::from(write_call::write(list, out))
 }
 
-// The named plan of a query, as a plan file, with the minute table.
+// The named plan of a query, as a plan file, with the minute table. Seven values, here and of the sheet: the C interface.
 pub fn haul_plan(
     net: &[u8],
     start: u32,
@@ -70,7 +59,7 @@ pub fn haul_plan(
 ) -> Reply
     ensures { PlanReplies (Plans net.now (asking start end earliest latest) table.old table.new out.old out.new) result }
 {
-    Reply::from(plan_call::plan(net, start, end, earliest, latest, table, out))
+    Reply::from(plan_call::plan(net, Query::new(start, end, earliest, latest), table, out))
 }
 
 // The bound sheet of a query, with the same table.
@@ -85,7 +74,7 @@ pub fn haul_sheet(
 ) -> Reply
     ensures { PlanReplies (Sheets net.now (asking start end earliest latest) table.old table.new out.old out.new) result }
 {
-    Reply::from(sheet_call::sheet(net, start, end, earliest, latest, table, out))
+    Reply::from(sheet_call::sheet(net, Query::new(start, end, earliest, latest), table, out))
 }
 
 // A plan and a bound sheet judged against a network, whoever wrote them.

@@ -4,7 +4,7 @@
 ghost use Rattle.std.specs.Prelude.{◌≡◌};
 ghost use Rattle.read_call.specs.Read.{Reads};
 ghost use Rattle.write_call.specs.Write.{Writes};
-ghost use Rattle.tabled.specs.Comes.{asking};
+ghost use Rattle.plan.specs.Network.{asking};
 ghost use Rattle.plan_call.specs.Call.{Plans};
 ghost use Rattle.sheet_call.specs.Sheet.{Sheets};
 ghost use Rattle.gate.specs.Gate.{GateSays};
@@ -28,7 +28,7 @@ pub extern "C" fn haul_write(list: &[u32], out: &mut [u8]) -> Reply
     terminal::haul_write(list, out)
 }
 
-// The named plan of a query, as a plan file, with the minute table.
+// The named plan of a query, as a plan file, with the minute table. Seven values, here and of the sheet: the C interface.
 #[unsafe(no_mangle)]
 pub extern "C" fn haul_plan(
     net: &[u8],

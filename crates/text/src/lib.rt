@@ -6,7 +6,8 @@ ghost use Rattle.text.specs.Text.{HasRoom, Writes, decimal_of, item, line};
 
 use itoa::Buffer;
 
-// Lent bytes, and the place up to which they are written.
+// Lent bytes, and the place up to which they are written. No `Display`: it would write through a formatter of its own, and a page that knows its place is the
+// plainer of the two.
 #[derive(Drop)]
 pub struct Page<'a> {
     pub out: &'a mut [u8],

@@ -1,30 +1,23 @@
 -- The legs of a sound file by their numbers, and the cells that a walk reads.
-use Prim.Native.Nat.{ℕ, zero, suc, ◌+◌, ◌*◌, ◌≤◌, ◌<◌}
+use Prim.Native.Nat.{ℕ, ◌+◌, ◌*◌, ◌≤◌, ◌<◌}
 use native.Mathlib.Omega.{arith}
 use native.Mathlib.Nat.{mul-le-mul_right, add-mul}
 use mathlib.Core.Path.{◌≡◌, refl, sym, ap, ◌∙◌, subst}
 use mathlib.Core.List.{List}
 use lib.Dec.{T}
-use lib.ListN.{length, get_or}
+use lib.ListN.{length}
 use Rattle.leg.specs.declared.Leg.{Leg}
 use Rattle.leg.specs.Toll.{toll_at}
-use Rattle.bits.specs.Field.{field}
-use borrow.Author.Tests.{leb-true}
-use Rattle.source.specs.Source.{Source, file_of}
-use Rattle.network.specs.declared.Head.{Head}
-use Rattle.network.specs.Reading.{found}
 use Rattle.std.specs.Prelude.{Ok}
 use Rattle.network.specs.declared.Size.{Size}
-use Rattle.network.specs.Network.{edition1, band, bands, bare, with_band, head, leg, of_file}
+use Rattle.network.specs.Network.{of_file}
 use Rattle.network.specs.Answers.{network_found}
-use Rattle.network.proofs.Inversion.{inner-step, head-inv}
 use Rattle.network.proofs.Sound.{SoundLeg}
 use Rattle.plan.specs.Network.{Minute, Network, Query, Within}
 use Rattle.plan.specs.Table.{width}
 use Rattle.plan.proofs.Walk.{Fits}
-use Rattle.chart.specs.Chart.{Chart}
 use Rattle.chart.specs.Net.{net_in, theory_in, leg_in}
-use Rattle.chart.proofs.Net.{places-are, few_places, charted, leg-known, leg-sound}
+use Rattle.chart.proofs.Net.{places-are, few_places, leg-known, leg-sound}
 use Rattle.walk.specs.Cells.{InTable}
 use Rattle.walk.specs.Walk.{LegFits, ReadsFrom}
 
@@ -67,29 +60,6 @@ pub reads-from : (l : Leg) (cells : List ℕ) (q : Query) (places : ℕ) → pla
 reads-from l cells q places few s room =
     record { place = omega (arith, s.from_below); room = row_room (width q) (length cells) l.from places (omega (arith, s.from_below)) room }
 
--- a leg stands at this bit: where it goes to stands 6 bits further on
-pub record LegStands (s : List ℕ) (at : ℕ) (l : Leg) : Type 0 where
-  pub there : at + 12 ≤ 8 * length s
-  pub target : l.to ≡ field s (at + 6) 6
-
--- where a leg goes to, straight from the file
-bands-keep : (src : Source) (n least : ℕ) (l : Leg) (at : ℕ) (l' : Leg) (end : ℕ) → bands n least l src at ≡ found l' end → l'.to ≡ l.to
-unfolding bands
-bands-keep src zero least l at l' end e = let same : l' ≡ l = cc in ap (λ (x : Leg). x.to) same
-bands-keep src (suc n) least l at l' end e =
-    let b = inner-step l' end (band least src at) (λ b after. bands n (b.start.0 + 1) (with_band l b) src after) e in
-    bands-keep src n (b.0.start.0 + 1) (with_band l b.0) b.1 l' end b.3
-
-leg-target : (s : List ℕ) (places at : ℕ) (l : Leg) (end : ℕ) → leg edition1 places (file_of s) at ≡ found l end
-    → (l.to ≡ field s (at + 6) 6) × (at + 12 ≤ 8 * length s)
-leg-target s places at l end e =
-    let src = file_of s in
-    let h = inner-step l end (head edition1 places src at) (λ h after. bands h.count 0 (bare edition1 h) src after) e in
-    let r = head-inv src at edition1 places h.0 h.1 h.2 in (
-      bands-keep src h.0.count 0 (bare edition1 h.0) h.1 l end h.3 ∙ ap (λ (x : Head). x.to) r.head_is,
-      omega (arith, leb-true (at + 6 + 6) (8 * length s) r.to_there),
-    )
-
 module _ (s : List ℕ) (size : Size) (ok : network_found (of_file s) ≡ Ok size) where
   -- a cell of the window is in the table
   pub in_table : (q : Query) (cells : List ℕ) → size.places * width q ≤ length cells → q.latest ≤ 2879 → (p : ℕ) (t : Minute) → Within (theory_in s) q p t
@@ -103,14 +73,6 @@ module _ (s : List ℕ) (size : Size) (ok : network_found (of_file s) ≡ Ok siz
         place = omega (arith, few_places s size ok);
         room = row_room (width q) (length cells) p size.places below room;
       }
-
-  -- the leg stands where the chart says
-  pub leg-stands : (chart : List ℕ) → Chart s chart → (k : ℕ) → k < size.legs → LegStands s (get_or chart k 0) (leg_in s k)
-  leg-stands chart by k below =
-      let c = charted s size ok chart by in
-      let e = c.stands k (leg-known s size ok k below) in
-      let t = leg-target s (net_in s).places (get_or chart k 0) (leg_in s k) e.0 e.1 in
-      record { there = t.1; target = t.0 }
 
   -- LEG k of the network, under whatever name
   module _ (k : ℕ) (below : k < size.legs) (l : Leg) (is : l ≡ leg_in s k) where

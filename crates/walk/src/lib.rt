@@ -22,8 +22,8 @@ pub struct Hop {
     pub departure: Minute,
 }
 
-// What the walk goes by: a network's legs, and the filled table of a query. That the table is right stays in the clauses:
-// it speaks of a plan for each cell, and a type keeps only what has one proof.
+// What the walk goes by: a network's legs, and the filled table of a query. That the table is right stays in the clauses: as a ghost field its proof does not close,
+// since it names a plan for each cell, and a type keeps only what has one proof.
 #[derive(Clone, Copy)]
 pub struct Walk<'a> {
     pub tariff: Tariff<'a>,
@@ -41,14 +41,14 @@ impl<'a> Walk<'a> {
         if leg.to != place {
             return false;
         }
-        if arrival.0 < self.table.query.earliest.0 + leg.time.0 {
+        if arrival < Minute(self.table.query.earliest.0 + leg.time.0) {
             return false;
         }
         let departure = Minute(arrival.0 - leg.time.0);
         let goal = self.table.cell(place, arrival);
         let source = self.table.cell(leg.from, departure);
         let toll = leg.toll_at(departure);
-        source as u64 + (64 * toll.0 as u64 + 1) == goal as u64
+        u64::from(source) + (64 * u64::from(toll.0) + 1) == u64::from(goal)
     }
 
     // The same of the leg of a number, which is decoded only if it goes to the place.
@@ -57,11 +57,10 @@ impl<'a> Walk<'a> {
             × ReadsFrom (leg_in self.now.tariff.net.now number) self.now.table.cells.now (asked_of self.now) }
         ensures { Tells result (asked_of self.now) (cells_of self.now) (leg_in self.now.tariff.net.now number) place arrival.0 }
     {
-        let tariff = &self.tariff;
-        if reader::field(tariff.net, tariff.chart[number] as usize + 6, 6) != place {
+        if self.tariff.leg_in_file(number).to() != place {
             return false;
         }
-        self.explains(tariff.leg(number), place, arrival)
+        self.explains(self.tariff.leg(number), place, arrival)
     }
 
     // The lowest leg that arrives at this place and minute and explains the cell there.

@@ -19,7 +19,7 @@ impl<'a> Table<'a> {
         requires { InTable self.now.cells.now (query_of self.now.query) place minute.0 }
         ensures { result ≡ cell_at (query_of self.now.query) self.now.cells.now place minute.0 }
     {
-        let width = self.query.latest.0 - self.query.earliest.0 + 1;
+        let width = self.query.window().columns();
         let at = (place * width + (minute.0 - self.query.earliest.0)) as usize;
         self.cells[at]
     }

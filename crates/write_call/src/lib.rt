@@ -3,7 +3,7 @@
 
 ghost use Rattle.std.specs.Prelude.{◌≡◌, ℕ, ◌+◌, ◌*◌, ◌≤◌, length};
 ghost use Rattle.network.specs.Network.{edition1};
-ghost use Rattle.network.specs.Fields.{head_fields, bands_fields, leg_fields};
+ghost use Rattle.network.specs.Fields.{leg_fields};
 ghost use Rattle.write_call.specs.Steps.{Adds, Small, LegsFit, LegsPut, Accepted, FileOf};
 ghost use Rattle.write_call.specs.Write.{Writes};
 
@@ -12,10 +12,11 @@ use leg::Leg;
 use network::Size;
 use source::Numbers;
 
-// The head of a leg, at bit `at`: from 6, to 6, driving time 12, bands 4.
-fn put_head(out: &mut [u8], at: usize, leg: Leg)
-    requires { Small leg × (at ≤ 1000000) × (at + 28 ≤ 8 * length out.old) }
-    ensures { Adds out.old out.new at (head_fields edition1 leg leg.count) }
+// One leg, from bit `at` on: its head (from 6, to 6, driving time 12, bands 4), then its bands (start 12, toll 16). One put for each. No writer
+// that holds its bit: a struct that lends the bytes would say in each contract that it lends the same ones afterwards.
+fn put_leg(out: &mut [u8], at: usize, leg: Leg)
+    requires { Small leg × (at ≤ 900000) × (at + 28 + 28 * leg.count ≤ 8 * length out.old) }
+    ensures { Adds out.old out.new at (leg_fields edition1 leg) }
 {
     bits::put(
         out,
@@ -23,26 +24,16 @@ fn put_head(out: &mut [u8], at: usize, leg: Leg)
         28,
         leg.from * 0x40_0000 + leg.to * 0x1_0000 + leg.time.0 * 0x10 + leg.count as u32,
     );
-}
-
-// The bands of a leg, from bit `at` on: start 12, toll 16.
-fn put_bands(out: &mut [u8], at: usize, leg: Leg)
-    requires { Small leg × (at ≤ 1000000) × (at + 28 * leg.count ≤ 8 * length out.old) }
-    ensures { Adds out.old out.new at (bands_fields leg.count leg.bands) }
-{
+    let bands = at + 28;
     for k in 0..leg.count {
         let band = leg.bands[k];
-        bits::put(out, at + 28 * k, 28, band.start.0 * 0x1_0000 + band.toll.0);
+        bits::put(
+            out,
+            bands + 28 * k,
+            28,
+            band.start.0 * 0x1_0000 + band.toll.0,
+        );
     }
-}
-
-// One leg: its head, then its bands.
-fn put_leg(out: &mut [u8], at: usize, leg: Leg)
-    requires { Small leg × (at ≤ 900000) × (at + 28 + 28 * leg.count ≤ 8 * length out.old) }
-    ensures { Adds out.old out.new at (leg_fields edition1 leg) }
-{
-    put_head(out, at, leg);
-    put_bands(out, at + 28, leg);
 }
 
 // The legs of a list that was judged, behind the head of the network.

@@ -1,34 +1,20 @@
--- `bits::gather`: the number so far is the field of the bytes passed.
-use Prim.Native.Nat.{◌+◌, ◌*◌}
-use mathlib.Core.Path.{◌≡◌, sym}
+use Prim.Native.Nat.{◌+◌, ◌-◌}
 use native.Mathlib.Omega.{arith}
-use Rattle.bits.proofs.Fields.{field-none}
-use Rattle.bits.proofs.Bytes.{joined, bytes_below}
+use mathlib.Core.Path.{◌≡◌, ◌∙◌}
+use borrow.Author.Rules.{rules}
+use borrow.Rule.Slice.PartMut.{put_mid}
+use lib.ListN.{take, drop, replicate}
+use Rattle.std.specs.Int.{w64, from_be_bytes}
+use Rattle.std.proofs.lemmas.List.{places}
+use Rattle.bits.proofs.Bytes.{last_bytes}
 use Rattle.bits.proofs.gather.Goals as goal
-
-pub loop-k-init : goal.loop-k-init
-loop-k-init c = sym (field-none c.args.s.now (8 * c.args.i))
-
-pub overflow_mul-word : goal.overflow_mul-word
-overflow_mul-word c =
-    let a = c.args in
-    omega (arith, bytes_below a.s.now a.i c.loop-k.k 7 (omega arith))
-
-pub overflow_add-word : goal.overflow_add-word
-overflow_add-word c =
-    let a = c.args in
-    let k = c.loop-k.k in
-    omega (arith, bytes_below a.s.now a.i k 7 (omega arith))
-
-pub loop-k-preserved : goal.loop-k-preserved
-loop-k-preserved c =
-    let a = c.args in
-    let k = c.loop-k.k in
-    let next : 8 * (k + 1) ≡ 8 * k + 8 = omega arith in
-    rw next (joined a.s.now a.i k 8 c.loop-k.invariant c.byte.ensures.0)
 
 pub returns : goal.returns
 returns c =
-    let a = c.args in
-    let all : c.loop-k.k ≡ a.count = omega arith in
-    rw (← all) c.loop-k.invariant
+    let s = c.args.s.now in
+    let i = c.args.i in
+    let n = c.args.count in
+    let bytes = put_mid (8 - n) (8 - (8 - n)) (replicate 8 0) (take (i + n - i) (drop i s)) in
+    let read : c.from_be_bytes.result ≡ from_be_bytes w64 bytes = search rules in
+    read
+    ∙ last_bytes s bytes i n c.requires.0 (λ j. omega (arith, c.type_inv.s j)) (λ j h. grind (arith, places)) (λ k h. grind (arith, places))

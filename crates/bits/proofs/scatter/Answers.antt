@@ -1,23 +1,17 @@
--- `bits::scatter`: the bytes passed hold the high bytes of the number.
 use native.Mathlib.Omega.{arith}
-use mathlib.Core.Path.{◌≡◌}
-use Rattle.bits.proofs.Stores.{store-start, store_step, store-all}
+use borrow.Rule.Slice.PartMut.{same_len_mid}
+use Rattle.std.proofs.lemmas.List.{places}
+use Rattle.bits.proofs.Stores.{low_bytes}
 use Rattle.bits.proofs.scatter.Goals as goal
-
-pub loop-k-init : goal.loop-k-init
-loop-k-init c = store-start c.args.s.now c.args.i c.args.count c.args.word c.requires.2
-
-pub loop-k-preserved : goal.loop-k-preserved
-loop-k-preserved c =
-    let a = c.args in
-    let l = c.loop-k in
-    store_step a.count l.k a.word l.invariant (omega arith) (omega arith)
-
-pub shape_of-s : goal.shape_of-s
-shape_of-s c = c.loop-k.invariant.same_length
 
 pub returns : goal.returns
 returns c =
     let a = c.args in
-    let all : c.loop-k.k ≡ a.count = omega arith in
-    store-all a.count a.word (rw all at c.loop-k.invariant)
+    let part = c.copy_from_slice.ensures.after in
+    let bytes = c.to_be_bytes.ensures in
+    record {
+      same_length = same_len_mid _ _ _ _ c.copy_from_slice.ensures.len;
+      bytes_before = λ j h. grind (arith, places);
+      bytes_after = λ j h. grind (arith, places);
+      holds = low_bytes _ a.i a.count a.word c.requires.0 c.requires.2 (omega (arith, c.ranges.word)) (λ k h. grind (arith, places));
+    }

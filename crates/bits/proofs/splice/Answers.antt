@@ -7,12 +7,12 @@ use Rattle.bits.proofs.splice.Goals as goal
 pub returns : goal.returns
 returns c =
     let a = c.args in
-    rw c.cut.ensures (splice-code a.word a.down a.width a.value c.requires.3 (omega arith))
+    rw (c.from.ensures, c.from-2.ensures, c.cut.ensures) (splice-code a.word a.down a.width a.value c.requires.3 (omega arith))
 
 pub overflow_sub-result : goal.overflow_sub-result
 overflow_sub-result c =
     let a = c.args in
-    rw c.cut.ensures (old-within a.word a.down a.width a.value c.requires.3 (omega arith))
+    rw (c.from.ensures, c.cut.ensures) (old-within a.word a.down a.width a.value c.requires.3 (omega arith))
 
 pub overflow_add-result : goal.overflow_add-result
 overflow_add-result c =

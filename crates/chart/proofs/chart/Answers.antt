@@ -42,44 +42,44 @@ next net size k place chart sound h p =
 pub loop-k-init : goal.loop-k-init
 loop-k-init c =
     let a = c.args in
-    let f = sound-file a.net.now a.size c.requires in
+    let f = sound-file a.file.net.now a.file.size a.file.sound in
     let few = f.sound.few_legs in
     let size = ap (λ (x : Size). x.legs) f.size_is in
-    (omega (arith, few, size), omega arith, λ z e. charting-none a.net.now z.places a.size.legs)
+    (omega (arith, few, size), omega arith, λ z e. charting-none a.file.net.now z.places a.file.size.legs)
 
 pub field-bands-requires : goal.field-bands-requires
 field-bands-requires c =
     let a = c.args in
     let l = c.loop-k in
-    let sound = c.requires in
-    let n = next a.net.now a.size l.k l.place l.chart sound (omega arith) (l.invariant.2 a.size sound) in
+    let sound = a.file.sound in
+    let n = next a.file.net.now a.file.size l.k l.place l.chart sound (omega arith) (l.invariant.2 a.file.size sound) in
     (omega arith, omega arith, omega (arith, n.ends.there))
 
 pub loop-k-preserved : goal.loop-k-preserved
 loop-k-preserved c =
     let a = c.args in
     let l = c.loop-k in
-    let sound = c.requires in
-    let p = l.invariant.2 a.size sound in
-    let n = next a.net.now a.size l.k l.place l.chart sound (omega arith) p in
+    let sound = a.file.sound in
+    let p = l.invariant.2 a.file.size sound in
+    let n = next a.file.net.now a.file.size l.k l.place l.chart sound (omega arith) p in
     let there : l.place + (28 + 28 * c.field-bands.result) ≡ n.end = omega (arith, n.ends.end_is, c.field-bands.ensures) in (
       l.invariant.0,
       omega (arith, n.near, there),
       λ z e.
-          let same : a.size ≡ z = cc in
-          charting-at a.net.now z.places a.size.legs _ n.end (omega (arith, there))
-          (subst (λ (w : Size). Charting a.net.now w.places a.size.legs (l.k + 1) n.end (set l.chart l.k l.place)) same
-          (charting-more a.net.now a.size.places a.size.legs l.k l.place l.chart n.leg-is n.end p (omega arith) (omega arith) (omega arith) n.stands)),
+          let same : a.file.size ≡ z = cc in
+          charting-at a.file.net.now z.places a.file.size.legs _ n.end (omega (arith, there))
+          (subst (λ (w : Size). Charting a.file.net.now w.places a.file.size.legs (l.k + 1) n.end (set l.chart l.k l.place)) same
+          (charting-more a.file.net.now a.file.size.places a.file.size.legs l.k l.place l.chart n.leg-is n.end p (omega arith) (omega arith) (omega arith) n.stands)),
     )
 
 pub returns : goal.returns
 returns c net end e =
     let a = c.args in
     let l = c.loop-k in
-    let sound = c.requires in
-    let f = sound-file a.net.now a.size sound in
-    let p = l.invariant.2 a.size sound in
+    let sound = a.file.sound in
+    let f = sound-file a.file.net.now a.file.size sound in
+    let p = l.invariant.2 a.file.size sound in
     let places = ap (λ (x : Size). x.places) f.size_is in
-    let all = charting-all a.net.now a.size.places a.size.legs l.k l.place l.chart p (omega arith) f.net.legs f.end f.legs_read in
-    subst (λ (n : Network). Charted a.net.now n l.chart) (sym (one-network a.net.now a.size f net end e))
+    let all = charting-all a.file.net.now a.file.size.places a.file.size.legs l.k l.place l.chart p (omega arith) f.net.legs f.end f.legs_read in
+    subst (λ (n : Network). Charted a.file.net.now n l.chart) (sym (one-network a.file.net.now a.file.size f net end e))
     record { stands = rw (← places) all; near = p.near }

@@ -15,4 +15,4 @@ abbrev SoFar : List ℕ → ℕ → ℕ → ℕ → List ℕ → Type 0
 SoFar net legs k place chart = (size : Size) → network_found (of_file net) ≡ Ok size → Charting net size.places legs k place chart
 
 abbrev pub invariant-loop-k : goal.invariant-loop-k
-invariant-loop-k l = (l.legs ≤ 512) × (l.place ≤ 25 + 252 * l.k) × SoFar l.net l.legs l.k l.place l.chart
+invariant-loop-k l = (l.legs ≤ 512) × (l.place ≤ 25 + 252 * l.k) × SoFar l.file.net.now l.legs l.k l.place l.chart

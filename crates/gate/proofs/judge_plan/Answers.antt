@@ -1,82 +1,93 @@
-use mathlib.Core.Path.{subst}
+use Prim.Native.Nat.{ℕ, ◌≤◌}
+use native.Mathlib.Omega.{arith}
+use mathlib.Core.List.{List}
 use mathlib.Core.Option.{Option}
+use mathlib.Core.Path.{sym, ap, subst}
+use Rattle.leg.specs.Price.{price_of}
 use Rattle.plan.specs.Network.{Query, Cents}
 use Rattle.plan_file.specs.PlanFile.{query_of}
-use Rattle.leg.specs.Price.{price_of}
 use Rattle.plan_reader.specs.InPlace.{file_at}
 use Rattle.rule_b.specs.Rule.{Is}
 use Rattle.rule_b.proofs.Turn.{is_true, is_false}
+use Rattle.leg.proofs.Order.{earlier, not-earlier}
 use Rattle.chart.specs.Net.{net_in, theory_in}
-use Rattle.chart.proofs.Net.{places-are}
 use Rattle.gate.specs.Gate.{Known, Holds, OfSheet}
 use Rattle.gate.specs.Parts.{sheet_at, Asked}
-use Rattle.gate.proofs.Answers.{plan-unknown, plan-closed, plan-fails, plan-on}
-use Prim.Native.Nat.{ℕ}
-use mathlib.Core.List.{List}
-use native.Mathlib.Omega.{arith}
-use mathlib.Core.Path.{◌≡◌, sym, ap}
-use Rattle.gate.proofs.judge_plan.Goals.{Start, After-of-tariff, After-plan_holds}
+use Rattle.gate.proofs.Answers.{known-is, plan-unknown, plan-closed, plan-fails, plan-on}
+use Rattle.gate.proofs.judge_plan.Goals.{After-known, After-plan_holds}
 use Rattle.gate.proofs.judge_plan.Goals as goal
 
--- the query is known, in the definition's words
-this-known : (c : Start) (r : mathlib.Core.Bool.Bool) → Is r (Known c.args.size.places (query_of c.args.read.query))
-    → Is r (Known (net_in c.args.net.now).places (file_at c.args.plan.now).query)
-this-known c r h =
+-- the test says whether the query is known, in the definition's words
+this-known : (c : After-known) → Is c.known.result (Known (net_in c.args.file.net.now).places (file_at c.args.plan.now).query)
+this-known c =
     let a = c.args in
-    subst (λ (q : Query). Is r (Known (net_in a.net.now).places q)) c.requires.2.query
-    (subst (λ (n : ℕ). Is r (Known n (query_of a.read.query))) (places-are a.net.now a.size c.requires.0) h)
+    known-is a.file.net.now a.file.size a.file.sound (query_of a.read.query) (file_at a.plan.now).query c.requires.1.query c.known.result c.known.ensures
 
--- the tariff is of this file
-same-net : (c : After-of-tariff) → c.of-tariff.result.net.now ≡ c.args.net.now
-same-net c = ap (λ r. r.now) c.of-tariff.ensures.0
+-- after both tests of it the query is known, and its window is one
+its-known : (c : After-plan_holds) → Known (net_in c.args.file.net.now).places (file_at c.args.plan.now).query
+its-known c =
+    let a = c.args in
+    let q = (file_at a.plan.now).query in
+    is_true c.known.result (Known (net_in a.file.net.now).places q) c.if-not-known.false
+    (known-is a.file.net.now a.file.size a.file.sound (query_of a.read.query) q c.requires.1.query c.known.result c.known.ensures)
 
--- and what the plan file says is held against its network
-this-plan : (c : After-plan_holds) → Is c.plan_holds.result (Holds (theory_in c.args.net.now) (file_at c.args.plan.now))
+opens : (c : After-plan_holds) → (file_at c.args.plan.now).query.earliest ≤ (file_at c.args.plan.now).query.latest
+opens c =
+    let q = c.args.read.query in
+    omega (
+      arith,
+      not-earlier q.latest.0 q.earliest.0 _ c.lt.ensures c.if-lt.false,
+      ap (λ (q : Query). q.earliest) c.requires.1.query,
+      ap (λ (q : Query). q.latest) c.requires.1.query,
+    )
+
+-- what the plan file says is held against its network
+this-plan : (c : After-plan_holds) → Is c.plan_holds.result (Holds (theory_in c.args.file.net.now) (file_at c.args.plan.now))
 this-plan c =
     subst (λ (s : List ℕ). Is c.plan_holds.result (Holds (theory_in s) (file_at c.args.plan.now))) (ap (λ r. r.now) c.of-tariff.ensures.0) c.plan_holds.ensures
 
 pub returns-then-not-known : goal.returns-then-not-known
 returns-then-not-known c =
-    let a = c.args in
-    plan-unknown (net_in a.net.now) (file_at a.plan.now) a.sheet.now
-    (is_false c.known.result (Known (net_in a.net.now).places (file_at a.plan.now).query) c.if-not-known.true (this-known (goal.at.returns-then-not-known c).Start c.known.result c.known.ensures))
+    let n = net_in c.args.file.net.now in
+    let f = file_at c.args.plan.now in
+    plan-unknown n f c.args.sheet.now (is_false c.known.result (Known n.places f.query) c.if-not-known.true (this-known (goal.at.returns-then-not-known c).After-known))
 
-pub returns-then-query : goal.returns-then-query
-returns-then-query c =
+pub returns-then-lt : goal.returns-then-lt
+returns-then-lt c =
     let a = c.args in
-    let d = c.requires.2 in
-    let k = is_true c.known.result (Known (net_in a.net.now).places (file_at a.plan.now).query) c.if-not-known.false (this-known (goal.at.returns-then-query c).Start c.known.result c.known.ensures) in
-    plan-closed (net_in a.net.now) (file_at a.plan.now) a.sheet.now k
-    (λ w. omega (arith, w, c.if-query.true, ap (λ (q : Query). q.earliest) d.query, ap (λ (q : Query). q.latest) d.query))
+    let n = net_in a.file.net.now in
+    let f = file_at a.plan.now in
+    let d = c.requires.1 in
+    let known = is_true c.known.result (Known n.places f.query) c.if-not-known.false (this-known (goal.at.returns-then-lt c).After-known) in
+    plan-closed n f a.sheet.now known
+    (λ w. omega (arith, w, earlier a.read.query.latest.0 a.read.query.earliest.0 _ c.lt.ensures c.if-lt.true, ap (λ (q : Query). q.earliest) d.query, ap (λ (q : Query). q.latest) d.query))
 
 pub returns-then-not-plan_holds : goal.returns-then-not-plan_holds
 returns-then-not-plan_holds c =
-    let a = c.args in
-    let d = c.requires.2 in
-    let k = is_true c.known.result (Known (net_in a.net.now).places (file_at a.plan.now).query) c.if-not-known.false (this-known (goal.at.returns-then-not-plan_holds c).Start c.known.result c.known.ensures) in
-    plan-fails (net_in a.net.now) (file_at a.plan.now) a.sheet.now k
-    (omega (arith, c.if-query.false, ap (λ (q : Query). q.earliest) d.query, ap (λ (q : Query). q.latest) d.query))
-    (is_false c.plan_holds.result (Holds (theory_in a.net.now) (file_at a.plan.now)) c.if-not-plan_holds.true (this-plan (goal.at.returns-then-not-plan_holds c).After-plan_holds))
+    let p = (goal.at.returns-then-not-plan_holds c).After-plan_holds in
+    let n = net_in c.args.file.net.now in
+    let f = file_at c.args.plan.now in
+    plan-fails n f c.args.sheet.now (its-known p) (opens p) (is_false c.plan_holds.result (Holds (theory_in c.args.file.net.now) f) c.if-not-plan_holds.true (this-plan p))
 
 pub judge_sheet-requires : goal.judge_sheet-requires
 judge_sheet-requires c =
     let a = c.args in
-    let d = c.requires.2 in
-    let k = is_true c.known.result (Known (net_in a.net.now).places (file_at a.plan.now).query) c.if-not-known.false (this-known (goal.at.judge_sheet-requires c).Start c.known.result c.known.ensures) in
-    subst (λ (s : List ℕ). Asked s (query_of a.read.query)) (sym (same-net (goal.at.judge_sheet-requires c).After-of-tariff))
-    (record { known = subst (λ (q : Query). Known (net_in a.net.now).places q) (sym d.query) k; window = c.if-query.false })
+    let n = net_in a.file.net.now in
+    let p = (goal.at.judge_sheet-requires c).After-plan_holds in
+    subst (λ (s : List ℕ). Asked s (query_of a.read.query)) (sym (ap (λ r. r.now) c.of-tariff.ensures.0))
+    (record { known = subst (λ (q : Query). Known n.places q) (sym c.requires.1.query) (its-known p); window = not-earlier a.read.query.latest.0 a.read.query.earliest.0 _ c.lt.ensures c.if-lt.false })
 
 pub returns : goal.returns
 returns c =
     let a = c.args in
-    let d = c.requires.2 in
-    let N = theory_in a.net.now in
-    let k = is_true c.known.result (Known (net_in a.net.now).places (file_at a.plan.now).query) c.if-not-known.false (this-known (goal.at.returns c).Start c.known.result c.known.ensures) in
+    let d = c.requires.1 in
+    let s = a.file.net.now in
+    let N = theory_in s in
+    let f = file_at a.plan.now in
+    let p = (goal.at.returns c).After-plan_holds in
     let r = c.judge_sheet.result in
-    plan-on (net_in a.net.now) (file_at a.plan.now) a.sheet.now k
-    (omega (arith, c.if-query.false, ap (λ (q : Query). q.earliest) d.query, ap (λ (q : Query). q.latest) d.query))
-    (is_true c.plan_holds.result (Holds (theory_in a.net.now) (file_at a.plan.now)) c.if-not-plan_holds.false (this-plan (goal.at.returns c).After-plan_holds))
-    r
-    (subst (λ (o : Option Cents). OfSheet r N (file_at a.plan.now).query o (sheet_at a.net.now a.sheet.now (file_at a.plan.now).query)) d.stated
-    (subst (λ (q : Query). OfSheet r N q (price_of a.read.stated) (sheet_at a.net.now a.sheet.now q)) d.query
-    (subst (λ (s : List ℕ). let q = query_of a.read.query in OfSheet r (theory_in s) q (price_of a.read.stated) (sheet_at s a.sheet.now q)) (same-net (goal.at.returns c).After-of-tariff) c.judge_sheet.ensures)))
+    plan-on (net_in s) f a.sheet.now (its-known p) (opens p) (is_true c.plan_holds.result (Holds N f) c.if-not-plan_holds.false (this-plan p)) r
+    (subst (λ (o : Option Cents). OfSheet r N f.query o (sheet_at s a.sheet.now f.query)) d.stated
+    (subst (λ (q : Query). OfSheet r N q (price_of a.read.stated) (sheet_at s a.sheet.now q)) d.query
+    (subst (λ (s : List ℕ). let q = query_of a.read.query in OfSheet r (theory_in s) q (price_of a.read.stated) (sheet_at s a.sheet.now q)) (ap (λ r. r.now) c.of-tariff.ensures.0)
+    c.judge_sheet.ensures)))

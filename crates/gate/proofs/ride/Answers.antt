@@ -4,8 +4,8 @@ use Rattle.leg.specs.Toll.{toll_at}
 use Rattle.network.proofs.Sound.{SoundLeg}
 use Rattle.plan_reader.specs.InPlace.{ride_at}
 use Rattle.chart.specs.Net.{net_in, leg_in}
-use Rattle.gate.proofs.Net.{read, leg-sound}
-use Rattle.gate.proofs.Rides.{toll-small, rode-on}
+use Rattle.chart.proofs.Net.{read, tariff-leg-sound}
+use Rattle.gate.proofs.Rides.{toll-small, not-before, rode-on}
 use Prim.Native.Nat.{ℕ, ◌+◌, ◌*◌, ◌<◌}
 use native.Mathlib.Omega.{arith}
 use mathlib.Core.Path.{◌≡◌, ap, ◌∙◌}
@@ -15,16 +15,16 @@ use Rattle.gate.proofs.ride.Goals as goal
 
 -- the leg that was decoded is the network's, and so is sound
 its-sound : (c : After-leg-leg) → SoundLeg (net_in c.args.tariff.now.net.now).places c.leg-leg.result
-its-sound c = rw c.leg-leg.ensures (leg-sound c.args.tariff.now c.pair-number.result.0 c.if-tariff-number.false)
+its-sound c = rw c.leg-leg.ensures (tariff-leg-sound c.args.tariff.now c.ride_at-number.result.0 c.if-tariff-number.false)
 
 pub returns-then-tariff-number : goal.returns-then-tariff-number
 returns-then-tariff-number c =
     let a = c.args in
-    λ b. omega (arith, b.known, c.pair-number.ensures.0, c.if-tariff-number.true, (read a.tariff.now).legs)
+    λ b. omega (arith, b.known, c.ride_at-number.ensures.0, c.if-tariff-number.true, (read a.tariff.now).legs)
 
 pub returns-then-leg-state : goal.returns-then-leg-state
 returns-then-leg-state c =
-    λ b. c.if-leg-state.true (ap (λ (x : Leg). x.from) c.leg-leg.ensures ∙ ap (λ (x : ℕ). (leg_in c.args.tariff.now.net.now x).from) c.pair-number.ensures.0 ∙ b.here)
+    λ b. c.if-leg-state.true (ap (λ (x : Leg). x.from) c.leg-leg.ensures ∙ ap (λ (x : ℕ). (leg_in c.args.tariff.now.net.now x).from) c.ride_at-number.ensures.0 ∙ b.here)
 
 pub toll_at-toll-requires : goal.toll_at-toll-requires
 toll_at-toll-requires c =
@@ -32,7 +32,7 @@ toll_at-toll-requires c =
 
 pub overflow_add-result : goal.overflow_add-result
 overflow_add-result c =
-    omega (arith, (its-sound (goal.at.overflow_add-result c).After-leg-leg).time_within, c.pair-number.ensures.1, field_below c.args.plan.now (89 + 21 * c.args.k + 9) 12)
+    omega (arith, (its-sound (goal.at.overflow_add-result c).After-leg-leg).time_within, c.ride_at-number.ensures.1, field_below c.args.plan.now (89 + 21 * c.args.k + 9) 12)
 
 pub returns : goal.returns
 returns c =
@@ -40,12 +40,12 @@ returns c =
     let n = a.tariff.now.net.now in
     let w = (goal.at.returns c).After-leg-leg in
     let leg = c.leg-leg.result in
-    let number = c.pair-number.ensures.0 in
-    let when = c.pair-number.ensures.1 in
+    let number = c.ride_at-number.ensures.0 in
+    let when = c.ride_at-number.ensures.1 in
     let low : (ride_at a.plan.now a.k).leg < length (net_in n).legs = omega (arith, number, c.if-tariff-number.false, (read a.tariff.now).legs) in
     let toll = c.toll_at-toll in
-    let paid : c.from.result ≡ toll_at leg c.pair-number.result.1 = c.from.ensures ∙ toll.ensures in
-    let small = toll-small _ _ c.pair-number.result.1 (its-sound w) in
+    let paid : c.from.result ≡ toll_at leg c.ride_at-number.result.1.0 = c.from.ensures ∙ toll.ensures in
+    let small = toll-small _ _ c.ride_at-number.result.1.0 (its-sound w) in
     rw when
     (rode-on n (ride_at a.plan.now a.k) a.state leg c.from.result (c.leg-leg.ensures ∙ ap (λ (x : ℕ). leg_in n x) number) low c.if-leg-state.false
-    (omega (arith, when, c.if-departure-state.false)) (paid ∙ ap (λ (t : ℕ). toll_at leg t) when) (omega (arith, paid, small)))
+    (omega (arith, when, not-before c.lt.result c.ride_at-number.result.1.0 _ a.state.time.0 c.lt.ensures c.if-lt.false (omega arith))) (paid ∙ ap (λ (t : ℕ). toll_at leg t) when) (omega (arith, paid, small)))

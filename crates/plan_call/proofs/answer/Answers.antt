@@ -17,34 +17,34 @@ use Rattle.plan_call.proofs.answer.Goals as goal
 pub returns-then-out-lt12 : goal.returns-then-out-lt12
 returns-then-out-lt12 c =
     let a = c.args in
-    no_room (theory_in a.net.now) (query_of a.query) a.out.now (none_file (query_of a.query)) none_filed
-    (none_right a.net.now a.size a.query a.cells.now c.requires (sym c.cell.ensures ∙ c.if-cell.true))
+    no_room (theory_in a.file.net.now) (query_of a.table.query) a.out.now (none_file (query_of a.table.query)) none_filed
+    (none_right a.file a.table.query a.table.cells.now c.requires (sym c.cell.ensures ∙ c.if-cell.true))
     c.if-out-lt12.true
 
 pub returns-then-cell : goal.returns-then-cell
 returns-then-cell c =
     let a = c.args in
-    room (theory_in a.net.now) (query_of a.query) a.out.now c.write_none.new.file (none_file (query_of a.query)) none_filed
-    (none_right a.net.now a.size a.query a.cells.now c.requires (sym c.cell.ensures ∙ c.if-cell.true))
+    room (theory_in a.file.net.now) (query_of a.table.query) a.out.now c.write_none.new.file (none_file (query_of a.table.query)) none_filed
+    (none_right a.file a.table.query a.table.cells.now c.requires (sym c.cell.ensures ∙ c.if-cell.true))
     c.write_none.ensures 12 (c.write_none.auto.file ∙ length-take-le 12 a.out.now c.if-out-lt12.false) c.if-out-lt12.false
 
 pub returns-then-out-bytes : goal.returns-then-out-bytes
 returns-then-out-bytes c =
     let a = c.args in
-    too_long a.net.now a.size a.query a.cells.now c.requires (λ e. c.if-cell.false (c.cell.ensures ∙ e)) _ c.first-arrival.ensures
+    too_long a.file a.table.query a.table.cells.now c.requires (λ e. c.if-cell.false (c.cell.ensures ∙ e)) _ c.first-arrival.ensures
     c.cell-legs.result c.cell-legs.ensures a.out.now c.if-out-bytes.true
 
 pub returns : goal.returns
 returns c =
     let a = c.args in
     let n = (96 + 21 * (c.cell-legs.result % 64)) / 8 in
-    let net : c.of-tariff.result.net.now ≡ a.net.now = ap (λ r. r.now) c.of-tariff.ensures.0 in
-    let named = subst (λ (s : List ℕ). NamedFile (theory_in s) (query_of a.query) c.write_plan.new.file) net c.write_plan.ensures in
-    written (theory_in a.net.now) (query_of a.query) a.out.now c.write_plan.new.file named n
+    let net : c.of-tariff.result.net.now ≡ a.file.net.now = ap (λ r. r.now) c.of-tariff.ensures.0 in
+    let named = subst (λ (s : List ℕ). NamedFile (theory_in s) (query_of a.table.query) c.write_plan.new.file) net c.write_plan.ensures in
+    written (theory_in a.file.net.now) (query_of a.table.query) a.out.now c.write_plan.new.file named n
     (c.write_plan.auto.file ∙ length-take-le n a.out.now c.if-out-bytes.false) c.if-out-bytes.false
 
 pub cell-requires : goal.cell-requires
-cell-requires c = let a = c.args in end-in a.net.now a.size a.query a.cells.now c.requires
+cell-requires c = let a = c.args in end-in a.file a.table.query a.table.cells.now c.requires
 
 pub slice_bounds-write_none-end-then-cell : goal.slice_bounds-write_none-end-then-cell
 slice_bounds-write_none-end-then-cell c = sym (length-take-le 12 c.args.out.now c.if-out-lt12.false)
@@ -54,12 +54,12 @@ write_none-requires c =
     (search rules, length-take-le 12 c.args.out.now c.if-out-lt12.false)
 
 pub first-arrival-requires : goal.first-arrival-requires
-first-arrival-requires c = let a = c.args in (omega arith, end-in a.net.now a.size a.query a.cells.now c.requires)
+first-arrival-requires c = let a = c.args in (omega arith, end-in a.file a.table.query a.table.cells.now c.requires)
 
 pub cell-legs-requires : goal.cell-legs-requires
 cell-legs-requires c =
     let a = c.args in
-    arrival-in a.net.now a.size a.query a.cells.now c.requires (λ e. c.if-cell.false (c.cell.ensures ∙ e)) _ c.first-arrival.ensures
+    arrival-in a.file a.table.query a.table.cells.now c.requires (λ e. c.if-cell.false (c.cell.ensures ∙ e)) _ c.first-arrival.ensures
 
 pub slice_bounds-write_plan-end-2 : goal.slice_bounds-write_plan-end-2
 slice_bounds-write_plan-end-2 c = sym (length-take-le _ c.args.out.now c.if-out-bytes.false)
@@ -68,9 +68,9 @@ pub write_plan-requires : goal.write_plan-requires
 write_plan-requires c =
     let a = c.args in
     let t = c.of-tariff.result in
-    let net : t.net.now ≡ a.net.now = ap (λ r. r.now) c.of-tariff.ensures.0 in
-    let tabled = subst (λ (s : List ℕ). Tabled s t.size a.query a.cells.now) (sym net)
-    (subst (λ (z : Size). Tabled a.net.now z a.query a.cells.now) (sym c.of-tariff.ensures.1) c.requires) in
+    let net : t.net.now ≡ a.file.net.now = ap (λ r. r.now) c.of-tariff.ensures.0 in
+    let tabled = subst (λ (s : List ℕ). Tabled s t.size a.table.query a.table.cells.now) (sym net)
+    (subst (λ (z : Size). Tabled a.file.net.now z a.table.query a.table.cells.now) (sym c.of-tariff.ensures.1) c.requires) in
     let long = length-take-le ((96 + 21 * (c.cell-legs.result % 64)) / 8) a.out.now c.if-out-bytes.false in
     let legs = ap (λ (x : ℕ). x % 64) c.cell-legs.ensures in
     (ending _ tabled (λ e. c.if-cell.false (c.cell.ensures ∙ e)) _ c.first-arrival.ensures, long ∙ omega (arith, legs))

@@ -9,4 +9,4 @@ use Rattle.read_call.proofs.list_leg.Given as goal
 
 abbrev pub invariant-loop-k : goal.invariant-loop-k
 invariant-loop-k l =
-    (length l.list ≡ length l.initial.list) × (l.list ≡ sets l.initial.list (l.at + 4) (values (bands_fields l.k (leg_at l.net l.place).bands)))
+    (length l.list ≡ length l.initial.list) × (l.list ≡ sets l.initial.list (l.at + 4) (values (bands_fields l.k (leg_at l.leg.net.now l.leg.at).bands)))

@@ -7,4 +7,4 @@ use Rattle.read_call.proofs.list_network.Given as goal
 
 abbrev pub invariant-loop-k : goal.invariant-loop-k
 invariant-loop-k l =
-    (l.legs ≤ 512) × (l.place ≤ 25 + 252 * l.k) × (length l.list ≡ length l.initial.list) × Listing l.net l.places l.legs l.k l.place l.at l.initial.list l.list
+    (l.legs ≤ 512) × (l.place ≤ 25 + 252 * l.k) × (length l.list ≡ length l.initial.list) × Listing l.file.net.now l.places l.legs l.k l.place l.at l.initial.list l.list

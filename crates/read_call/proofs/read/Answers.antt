@@ -1,41 +1,51 @@
-use Prim.Native.Nat.{◌≤◌}
+use Prim.Native.Nat.{ℕ, ◌≤◌}
 use native.Mathlib.Omega.{arith}
-use borrow.Author.Rules.{rules}
-use Rattle.network.specs.declared.Size.{Size}
-use Prim.Native.Nat.{ℕ}
+use mathlib.Core.Path.{◌≡◌, refl, sym, ap, subst, ◌∙◌}
 use mathlib.Core.List.{List}
-use mathlib.Core.Path.{◌≡◌, refl, sym, ◌∙◌}
-use Rattle.std.specs.Prelude.{Ok}
+use borrow.Author.Rules.{rules}
+use Rattle.std.specs.Prelude.{Ok, Err}
+use Rattle.network.specs.declared.sound_file.SoundFile.{SoundFile}
 use Rattle.network.specs.Network.{of_file}
 use Rattle.network.specs.Answers.{network_found}
 use Rattle.network.proofs.Files.{sound-file, sound-size}
-use Rattle.read_call.proofs.Results.{reads_short, reads-done}
+use Rattle.read_call.specs.Read.{Reads, listed}
+use Rattle.read_call.proofs.Results.{reads-refused, reads_short, reads-done}
+use Rattle.read_call.proofs.read.Goals.{In_ok-file}
 use Rattle.read_call.proofs.read.Goals as goal
 
-pub returns-in_err-size : goal.returns-in_err-size
-returns-in_err-size c = search rules
+-- the file that was judged is the one that was lent
+sound : (c : In_ok-file) → network_found (of_file c.args.net.now) ≡ Ok c.in_ok-file.file.size
+sound c = let file = c.in_ok-file.file in subst (λ (s : List ℕ). network_found (of_file s) ≡ Ok file.size) c.in_ok-file.ensures file.sound
+
+pub returns-in_err-file : goal.returns-in_err-file
+returns-in_err-file c =
+    let why = c.in_err-file.field-0.0 in
+    let said : c.from_residual.result ≡ Err why = search rules in
+    subst (Reads c.args.net.now c.args.list.now c.args.list.now) (sym said) (reads-refused c.args.net.now c.args.list.now why c.in_err-file.ensures)
 
 pub returns-then-room-count : goal.returns-then-room-count
-returns-then-room-count c = reads_short _ _ _ (sym c.network_from.ensures ∙ c.in_ok-size.was) c.if-room-count.true
+returns-then-room-count c = reads_short _ _ _ (sound (goal.at.returns-then-room-count c).In_ok-file) c.if-room-count.true
 
 pub returns : goal.returns
-returns c = reads-done _ _ _ (sym c.network_from.ensures ∙ c.in_ok-size.was) _ _ refl c.if-room-count.false c.list_network.ensures
+returns c =
+    reads-done _ _ _ (sound (goal.at.returns c).In_ok-file) _ _ refl c.if-room-count.false
+    (c.list_network.ensures ∙ ap (λ (s : List ℕ). listed (of_file s) c.args.list.now) c.in_ok-file.ensures)
 
 -- how large the network can be
-small : (net : List ℕ) (size : Size) → network_found (of_file net) ≡ Ok size → (size.places ≤ 64) × (size.legs ≤ 512) × (size.bands ≤ 4096)
-small net size e = sound-size net size (sound-file net size e)
+small : (file : SoundFile) → (file.size.places ≤ 64) × (file.size.legs ≤ 512) × (file.size.bands ≤ 4096)
+small file = sound-size file.net.now file.size (sound-file file.net.now file.size file.sound)
 
 pub overflow_mul-count : goal.overflow_mul-count
-overflow_mul-count c = omega (arith, small c.args.net.now c.in_ok-size.size (sym c.network_from.ensures ∙ c.in_ok-size.was))
+overflow_mul-count c = omega (arith, small c.in_ok-file.file)
 
 pub overflow_add-count : goal.overflow_add-count
-overflow_add-count c = omega (arith, small c.args.net.now c.in_ok-size.size (sym c.network_from.ensures ∙ c.in_ok-size.was))
+overflow_add-count c = omega (arith, small c.in_ok-file.file)
 
 pub overflow_mul-count-2 : goal.overflow_mul-count-2
-overflow_mul-count-2 c = omega (arith, small c.args.net.now c.in_ok-size.size (sym c.network_from.ensures ∙ c.in_ok-size.was))
+overflow_mul-count-2 c = omega (arith, small c.in_ok-file.file)
 
 pub overflow_add-count-2 : goal.overflow_add-count-2
-overflow_add-count-2 c = omega (arith, small c.args.net.now c.in_ok-size.size (sym c.network_from.ensures ∙ c.in_ok-size.was))
+overflow_add-count-2 c = omega (arith, small c.in_ok-file.file)
 
 pub overflow_cast-result : goal.overflow_cast-result
-overflow_cast-result c = omega (arith, small c.args.net.now c.in_ok-size.size (sym c.network_from.ensures ∙ c.in_ok-size.was))
+overflow_cast-result c = omega (arith, small c.in_ok-file.file)

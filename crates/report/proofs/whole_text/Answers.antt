@@ -1,26 +1,23 @@
-use mathlib.Core.Path.{sym, ap, ◌∙◌}
+use mathlib.Core.Path.{refl, sym, ap, ◌∙◌}
 use lib.ListN.{length}
-use Rattle.report.specs.Report.{latest_of}
-use Rattle.report.proofs.Telling.{report-short, report-fill, report-net, rest-is, front}
+use Rattle.plan.specs.Network.{Query}
+use Rattle.report.specs.Report.{latest_of, Reports}
+use Rattle.report.proofs.Telling.{report-short, report-fill, report-net, rest-is, fills-by}
 use Rattle.report.proofs.whole_text.Goals as goal
 
 pub returns-then-input-lt5 : goal.returns-then-input-lt5
-returns-then-input-lt5 c =
-    let e = rw c.number.ensures at c.answer_line.ensures in (report-short c.args.input.now (length c.args.table.now) _ c.if-input-lt5.true (front _ _ _ c.requires.2 e), e.adds.fits, e.same)
+returns-then-input-lt5 c = (report-short c.args.input.now (length c.args.table.now) _ c.if-input-lt5.true refl, refl, refl, refl)
 
 pub returns-then-field-ne0 : goal.returns-then-field-ne0
 returns-then-field-ne0 c =
-    let e = rw c.number-then-field-ne0.ensures at c.answer_line-then-field-ne0.ensures in (
-      report-fill c.args.input.now (length c.args.table.now) _ c.if-input-lt5.false (λ z. c.if-field-ne0.true (c.field.ensures ∙ z)) (front _ _ _ c.requires.2 e),
-      e.adds.fits,
-      e.same,
-    )
+    (report-fill c.args.input.now (length c.args.table.now) _ c.if-input-lt5.false (λ z. c.if-field-ne0.true (c.field.ensures ∙ z)) refl, refl, refl, refl)
 
 pub returns : goal.returns
 returns c =
-    let e = c.net_text.ensures in (
-      report-net c.args.input.now (length c.args.table.now) _ _ (rest-is c.args.input.now) c.if-input-lt5.false (sym c.field.ensures ∙ c.if-field-ne0.false) _
-          c.field-2.ensures c.field-3.ensures c.field-4.ensures (c.latest_of.ensures ∙ ap latest_of c.field-5.ensures) e.0,
-      e.1,
-      e.2,
-    )
+    let a = c.args in
+    let read = c.query_at-query.ensures in
+    fills-by _ (Reports a.input.now (length a.table.now))
+    (λ text p. report-net a.input.now (length a.table.now) text _ (rest-is a.input.now) c.if-input-lt5.false (sym c.field.ensures ∙ c.if-field-ne0.false) _
+    (ap (λ (q : Query). q.start) read) (ap (λ (q : Query). q.end) read) (ap (λ (q : Query). q.earliest) read)
+    (c.latest_of.ensures ∙ ap (λ (q : Query). latest_of q.latest) read) p)
+    a.page.now c.net_text.new.page c.net_text.result c.net_text.ensures

@@ -5,4 +5,4 @@ use mathlib.Core.Bool.{false}
 use Rattle.rows.proofs.any_lower.Given as goal
 
 abbrev pub invariant-loop-k : goal.invariant-loop-k
-invariant-loop-k l = l.any ≡ false → Passed l.part l.row l.from l.k l.time l.add
+invariant-loop-k l = l.any ≡ false → Passed l.part l.rides.row.now l.rides.from l.k l.rides.time l.rides.add

@@ -7,4 +7,4 @@ pub loop-j-preserved : goal.loop-j-preserved
 loop-j-preserved c =
     let a = c.args in
     let l = c.loop-j in
-    lower-more a.part.now l.part a.row.now a.from l.j a.time a.add l.invariant l.auto.j c.ridden.result (omega (arith, l.invariant.long, c.requires)) (omega (arith, c.ridden.ensures))
+    lower-more a.part.now l.part a.rides.row.now a.rides.from l.j a.rides.time a.rides.add l.invariant l.auto.j c.ridden.result (omega (arith, l.invariant.long, c.requires)) (omega (arith, c.ridden.ensures))

@@ -13,5 +13,6 @@ returns c =
     let fits : a.p * a.w + a.w ≤ length a.cells.now = omega arith in
     let all = row-length a.cells.now a.w a.p fits in
     let s = rw size at c.in-Some.ensures in
-    let l = rw size at c.lower.ensures in
-    rw size (lowered-row a.cells.now a.w a.p fits c.lower.new.part (l.long ∙ all) a.row.now a.from a.until a.time a.add c.in-Some.first (omega arith) s.1 s.0 l)
+    let b = c.between.ensures in
+    let l = rw (size, b.0, b.1, b.2, b.3, b.4) at c.lower.ensures in
+    rw size (lowered-row a.cells.now a.w a.p fits c.lower.new.part (l.long ∙ all) a.rides.row.now a.rides.from a.rides.until a.rides.time a.rides.add c.in-Some.first (omega arith) s.1 s.0 l)

@@ -1,15 +1,15 @@
-use Rattle.sheet_file.specs.Window.{window}
-use Rattle.network.specs.InFile.{leg_at, LegThere}
+use Rattle.sheet_file.specs.Window.{of_window}
+use Rattle.rule_b.specs.Cursor.{leg_of, steps_of}
 use Rattle.rule_b.proofs.Turn.{Walking}
-use Prim.Native.Nat.{ℕ, ◌-◌}
+use Prim.Native.Nat.{◌-◌}
 use mathlib.Core.Path.{◌≡◌}
 use Rattle.rule_b.proofs.leg_obeys.Given as goal
 
--- the loop does not use earliest: some window from there to latest is what it walks in
-abbrev pub invariant-loop-departure : goal.invariant-loop-departure
-invariant-loop-departure l =
-    (earliest : ℕ) × Walking l.sheet (leg_at l.net l.leg) l.from l.to (window earliest l.window.latest.0) l.i l.j l.tolls l.departure.0 × (l.time.0 ≡ (leg_at l.net l.leg).time.0) × LegThere l.net l.leg l.count
+abbrev pub invariant-loop-from : goal.invariant-loop-from
+invariant-loop-from l =
+    Walking (leg_of l.fn.leg) (steps_of l.fn.from) (steps_of l.fn.to) (of_window l.fn.from.window) (of_window l.fn.to.window) l.fn.from.window.latest.0 l.i l.j l.tolls l.departure.0
+    × (l.time.0 ≡ (leg_of l.fn.leg).time.0)
 
-abbrev pub decreases-loop-departure : goal.decreases-loop-departure
-decreases-loop-departure l =
+abbrev pub decreases-loop-from : goal.decreases-loop-from
+decreases-loop-from l =
     4097 - l.departure.0

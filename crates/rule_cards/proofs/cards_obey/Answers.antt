@@ -1,31 +1,40 @@
 -- `rule_cards::cards_obey`: the leg's bands are put on a card, and then all is tested.
 use Prim.Native.Nat.{◌+◌}
 use native.Mathlib.Omega.{arith}
+use mathlib.Core.Path.{ap}
+use lib.ListN.{length}
+use Rattle.leg.specs.declared.Minute.{Minute}
 use Rattle.network.specs.InFile.{leg_at}
+use Rattle.card.specs.Card.{Carded}
 use Rattle.rule_cards.proofs.Legs.{new-card, bands-ready, leg-tested}
+use Rattle.rule_cards.proofs.cards_obey.Goals.{After-card}
 use Rattle.rule_cards.proofs.cards_obey.Goals as goal
+
+-- the leg's bands are on the card
+this-card : (c : After-card) → let leg = c.args.leg in
+    Carded leg.net.now (leg.at + 28) 16 (leg_at leg.net.now leg.at).count (length c.card.result.minutes.now) c.card.result.minutes.now c.card.result.prices.now 0
+this-card c =
+    let leg = c.args.leg in
+    let fill = c.fill.ensures in
+    let (starts, tolls, size, _) = c.card.ensures in
+    new-card leg.net.now (leg.at + 28) c.count-count.result _ _ _ c.card.result c.count-count.ensures leg.there.few c.blank-bands.ensures fill.0 fill.1 starts tolls size
 
 pub invariant_of-cards : goal.invariant_of-cards
 invariant_of-cards c =
-    let a = c.args in
+    let leg = c.args.leg in
     let h = c.requires in
-    let count = c.field-count in
-    let fill = c.fill.ensures in
-    let card = new-card a.net.now (a.leg + 28) count.result (leg_at a.net.now a.leg).count _ _ count.ensures h.0.few fill.0 fill.1 in
     record {
       fit = record {
-        from_ready = h.2;
-        to_ready = h.3;
-        bands_ready = bands-ready a.net.now a.leg h.1 _ card fill.1.size fill.2.size;
-        time_within = omega (arith, h.1.time_within, c.field.ensures);
-        latest_within = h.5;
+        from_ready = h.1;
+        to_ready = h.2;
+        bands_ready = bands-ready leg.net.now leg.at h.0.order _ (this-card (goal.at.invariant_of-cards c).After-card) c.card.ensures.2 c.card.ensures.3;
+        time_within = omega (arith, h.0.order.time_within, ap (λ (m : Minute). m.0) c.time-time.ensures);
+        latest_within = h.0.end;
       };
     }
 
 pub returns : goal.returns
 returns c i j h =
-    let a = c.args in
-    let count = c.field-count in
-    let fill = c.fill.ensures in
-    let card = new-card a.net.now (a.leg + 28) count.result (leg_at a.net.now a.leg).count _ _ count.ensures c.requires.0.few fill.0 fill.1 in
-    leg-tested a.net.now a.leg c.requires.1 _ a.steps count.result i j h count.ensures c.field.ensures card c.obey.result c.obey.ensures
+    let leg = c.args.leg in
+    leg-tested leg.net.now leg.at c.requires.0.order _ c.args.steps c.count-count.result i j h c.count-count.ensures (ap (λ (m : Minute). m.0) c.time-time.ensures)
+    (this-card (goal.at.returns c).After-card) c.obey.result c.obey.ensures

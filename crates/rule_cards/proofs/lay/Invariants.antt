@@ -3,4 +3,4 @@ use Rattle.rule_cards.proofs.Laying.{Laying}
 use Rattle.rule_cards.proofs.lay.Given as goal
 
 abbrev pub invariant-loop-p : goal.invariant-loop-p
-invariant-loop-p l = Laying l.sheet l.index l.minutes l.prices l.p
+invariant-loop-p l = Laying l.sheet l.index l.cards l.p

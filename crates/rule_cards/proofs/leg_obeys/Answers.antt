@@ -1,37 +1,26 @@
 -- `rule_cards::leg_obeys`: with few steps by cards, else by the walk.
 use Prim.Native.Nat.{◌≤◌}
 use native.Mathlib.Omega.{arith}
-use Rattle.sheet_file.specs.InPlace.{place_at, count_at}
-use Rattle.sheet_file.specs.Window.{of_window}
+use Rattle.sheet_file.specs.InPlace.{count_at}
+use Rattle.rule_b.specs.Cursor.{steps_of}
 use Rattle.rule_cards.proofs.Legs.{place-ready, joined}
 use Rattle.rule_cards.proofs.leg_obeys.Goals.{Else-max-gt-STEPS}
 use Rattle.rule_cards.proofs.leg_obeys.Goals as goal
 
 -- both places have few steps
-i-few : (c : Else-max-gt-STEPS) → count_at c.args.sheet.now c.args.from.bit ≤ 16
-i-few c = omega (arith, c.max.ensures, c.if-max-gt-STEPS.false, c.field-steps.ensures)
+i-few : (c : Else-max-gt-STEPS) → count_at c.args.from.steps.sheet.now c.args.from.steps.bit ≤ 16
+i-few c = omega (arith, c.max.ensures, c.if-max-gt-STEPS.false, c.count-steps.ensures)
 
-j-few : (c : Else-max-gt-STEPS) → count_at c.args.sheet.now c.args.to.bit ≤ 16
-j-few c = omega (arith, c.max.ensures, c.if-max-gt-STEPS.false, c.field-others.ensures)
+j-few : (c : Else-max-gt-STEPS) → count_at c.args.to.steps.sheet.now c.args.to.steps.bit ≤ 16
+j-few c = omega (arith, c.max.ensures, c.if-max-gt-STEPS.false, c.count.ensures)
 
 pub cards_obey-requires : goal.cards_obey-requires
 cards_obey-requires c =
-    let a = c.args in
-    let h = c.requires in
-    let q = of_window a.window in
-    let few = (goal.at.cards_obey-requires c).Else-max-gt-STEPS in (
-      h.0,
-      h.1.order,
-      place-ready q a.sheet.now a.from h.1.from_place.steps h.2 (i-few few),
-      place-ready q a.sheet.now a.to h.1.to_place.steps h.3 (j-few few),
-      omega (arith, c.max.ensures, c.if-max-gt-STEPS.false),
-      h.1.end,
-    )
+    let few = (goal.at.cards_obey-requires c).Else-max-gt-STEPS in
+    (c.requires, place-ready c.args.from (i-few few), place-ready c.args.to (j-few few), omega (arith, c.max.ensures, c.if-max-gt-STEPS.false))
 
 pub returns : goal.returns
 returns c =
     let a = c.args in
-    let h = c.requires in
     let few = (goal.at.returns c).Else-max-gt-STEPS in
-    c.cards_obey.ensures (place_at a.sheet.now a.from.bit) (place_at a.sheet.now a.to.bit)
-    (joined (of_window a.window) a.sheet.now a.from a.to h.1.from_place.steps h.1.to_place.steps h.2 h.3 (i-few few) (j-few few) c.field-steps.result c.field-steps.ensures)
+    c.cards_obey.ensures (steps_of a.from.steps) (steps_of a.to.steps) (joined a.from a.to (i-few few) (j-few few) c.count-steps.result c.count-steps.ensures)

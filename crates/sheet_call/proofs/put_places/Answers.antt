@@ -9,11 +9,11 @@ put_place-at-requires c =
     let a = c.args in
     let t = a.table.now in
     let taken = c.loop-p-test.true in
-    let long = row-length t.cells.now t.w l.p (place-fits t.cells.now t.w t.places a.earliest.0 a.out.now t.table l.out l.at l.p l.invariant taken) in
+    let long = row-length t.cells.now t.w l.p (place-fits t.cells.now t.w t.places t.earliest.0 a.out.now t.table l.out l.at l.p l.invariant taken) in
     rw c.row.ensures (
-      omega (arith, long, c.requires.0),
+      omega (arith, long, t.clock),
       omega (arith, l.invariant.near, l.invariant.within, t.table.few),
-      placing-room t.cells.now t.w t.places a.earliest.0 a.out.now t.table l.out l.at l.p l.invariant taken,
+      placing-room t.cells.now t.w t.places t.earliest.0 a.out.now t.table l.out l.at l.p l.invariant taken,
     )
 
 pub loop-p-preserved : goal.loop-p-preserved
@@ -22,11 +22,11 @@ loop-p-preserved c =
     let a = c.args in
     let t = a.table.now in
     let e = rw c.row.ensures at c.put_place-at.ensures in
-    placing-more t.cells.now t.w t.places a.earliest.0 a.out.now t.table l.out l.at l.p l.invariant c.loop-p-test.true _ _ e.0 e.1 e.2
+    placing-more t.cells.now t.w t.places t.earliest.0 a.out.now t.table l.out l.at l.p l.invariant c.loop-p-test.true _ _ e.0 e.1 e.2
 
 pub returns : goal.returns
 returns c =
     let l = c.loop-p in
     let a = c.args in
     let t = a.table.now in
-    placing-done t.cells.now t.w t.places a.earliest.0 a.out.now t.table l.out l.at l.p l.invariant (omega arith)
+    placing-done t.cells.now t.w t.places t.earliest.0 a.out.now t.table l.out l.at l.p l.invariant (omega arith)

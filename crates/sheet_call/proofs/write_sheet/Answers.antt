@@ -13,8 +13,8 @@ returns c =
     let a = c.args in
     let t = a.table.now in
     let zero = c.clear in
-    sheet-file _ _ _ _ (sheet_in t.cells.now t.w a.earliest.0 t.places) t.places
-    (places-size t.cells.now t.w a.earliest.0 0 t.places)
+    sheet-file _ _ _ _ (sheet_in t.cells.now t.w t.earliest.0 t.places) t.places
+    (places-size t.cells.now t.w t.earliest.0 0 t.places)
     (λ i. ap (λ (x : List ℕ). get_or x i 0) zero.ensures ∙ zeros-are (length a.file.now) i)
-    (zero.auto.out ∙ c.requires.1)
+    (zero.auto.out ∙ c.requires)
     c.put.ensures c.put-2.ensures c.put_places.ensures

@@ -1,18 +1,22 @@
 -- `sheet_file::sheet_from`: the places that were read, and then the others.
 use Rattle.source.specs.Source.{file_of}
-use Rattle.sheet_file.specs.SheetFile.{top}
+use Rattle.sheet_file.specs.SheetFile.{top, places, sheet_of}
+use Rattle.sheet_file.specs.InPlace.{Indexed}
+use mathlib.Core.Bool.{true}
 use Rattle.sheet_file.specs.Window.{of_window}
+use Rattle.network.specs.Reading.{found}
 use Rattle.sheet_file.proofs.Laws.{tested-true, tested-false}
-use Rattle.sheet_file.proofs.Found.{partly_none, partly_more, partly-nothing, partly-all, judged-top, judged-places, judged-all}
+use Rattle.sheet_file.proofs.Found.{partly_none, partly_more, partly-nothing, partly-all, judged-top, judged-places, judged-tail, sheet-is, placed}
 use native.Mathlib.Omega.{arith}
-use mathlib.Core.Path.{◌≡◌, refl}
+use mathlib.Core.Path.{◌≡◌, refl, sym, ◌∙◌}
 use lib.ListN.{length-set}
+use Rattle.sheet_file.proofs.sheet_from.Goals.{After-ends}
 use Rattle.sheet_file.proofs.sheet_from.Goals as goal
 
 pub returns-then-not-top_sound : goal.returns-then-not-top_sound
 returns-then-not-top_sound c =
     let a = c.args in
-    judged-top a.sheet.now (of_window a.window) a.places
+    judged-top a.sheet.now a.window a.places
     (tested-false c.top_sound.result (top a.places (file_of a.sheet.now) 0) tt 15 c.if-not-top_sound.true c.top_sound.ensures)
 
 pub loop-k-init : goal.loop-k-init
@@ -24,10 +28,10 @@ pub returns-in_err-place : goal.returns-in_err-place
 returns-in_err-place c =
     let a = c.args in
     let l = c.loop-k in
-    let q = of_window a.window in
     let head = tested-true c.top_sound.result (top a.places (file_of a.sheet.now) 0) tt 15 c.if-not-top_sound.false c.top_sound.ensures in
     rw c.from_residual.ensures
-    (judged-places a.sheet.now q a.places head (partly-nothing a.sheet.now q a.places l.k l.place l.index l.invariant.3 c.loop-k-test.true c.in_err-place.ensures))
+    (judged-places a.sheet.now a.window a.places head
+    (partly-nothing a.sheet.now (of_window a.window) a.places l.k l.place l.index l.invariant.3 c.loop-k-test.true c.in_err-place.ensures))
 
 pub loop-k-preserved : goal.loop-k-preserved
 loop-k-preserved c =
@@ -41,15 +45,39 @@ loop-k-preserved c =
       partly_more a.sheet.now q a.places l.k l.place l.index l.invariant.3 place.place c.loop-k-test.true (omega arith) place.ensures.0,
     )
 
-pub returns : goal.returns
-returns c =
+-- all places are read
+head : (c : After-ends) → top c.args.places (file_of c.args.sheet.now) 0 ≡ found tt 15
+head c = tested-true c.top_sound.result (top c.args.places (file_of c.args.sheet.now) 0) tt 15 c.if-not-top_sound.false c.top_sound.ensures
+
+all : (c : After-ends) → places c.args.places (of_window c.args.window) (file_of c.args.sheet.now) 15 ≡ found c.loop-k.invariant.3.before c.loop-k.place
+all c =
     let a = c.args in
     let l = c.loop-k in
-    let q = of_window a.window in
-    let head = tested-true c.top_sound.result (top a.places (file_of a.sheet.now) 0) tt 15 c.if-not-top_sound.false c.top_sound.ensures in
-    let all : l.k ≡ a.places = omega arith in
-    let p = l.invariant.3 in
-    rw c.then_some.ensures
-    (judged-all a.sheet.now q a.places head p.before l.place l.index
-    (partly-all a.sheet.now q a.places l.k l.place l.index p all)
-    (rw (← all) p.indexed) c.ends.result c.ends.ensures)
+    partly-all a.sheet.now (of_window a.window) a.places l.k l.place l.index l.invariant.3 (omega arith)
+
+indexed : (c : After-ends) → Indexed c.args.sheet.now c.args.places c.loop-k.index c.loop-k.invariant.3.before
+indexed c = let same : c.loop-k.k ≡ c.args.places = omega arith in rw (← same) c.loop-k.invariant.3.indexed
+
+pub returns-then-not-ends : goal.returns-then-not-ends
+returns-then-not-ends c =
+    let a = c.args in
+    let l = c.loop-k in
+    let p = (goal.at.returns-then-not-ends c).After-ends in
+    judged-tail a.sheet.now a.window a.places (head p) l.invariant.3.before l.place (all p) (sym c.ends.ensures ∙ c.if-not-ends.true)
+
+-- the sheet that the file stands for
+sheet : (c : After-ends) → c.ends.result ≡ true
+    → sheet_of c.args.places (of_window c.args.window) c.args.sheet.now ≡ found c.loop-k.invariant.3.before c.loop-k.place
+sheet c e = sheet-is c.args.sheet.now c.args.window c.args.places (head c) c.loop-k.invariant.3.before c.loop-k.place (all c) (sym c.ends.ensures ∙ e)
+
+pub invariant_of-result : goal.invariant_of-result
+invariant_of-result c =
+    let a = c.args in
+    let l = c.loop-k in
+    let p = (goal.at.invariant_of-result c).After-ends in
+    record { placed = placed a.places (of_window a.window) a.sheet.now l.invariant.3.before l.place l.index c.requires (sheet p c.if-not-ends.false) (indexed p) }
+
+pub returns : goal.returns
+returns c =
+    let p = (goal.at.returns c).After-ends in
+    rw (sheet p c.if-not-ends.false) (record { bytes = refl; places = refl; window = refl; indexed = indexed p })

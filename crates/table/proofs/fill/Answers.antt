@@ -8,19 +8,19 @@ pub returns : goal.returns
 returns c =
     let a = c.args in
     let long = c.sweep.auto.cells ∙ c.outset.auto.cells in
-    let same : c.of-tariff.result.net.now ≡ a.net.now = cc in
-    fill_done a.net.now a.size a.start a.earliest a.latest a.cells.now c.requires c.sweep.new.cells c.sweep.new.low long (rw same at c.sweep.ensures)
+    let same : c.of-tariff.result.net.now ≡ a.file.net.now = cc in
+    fill_done a.file a.start a.window a.cells.now c.requires c.sweep.new.cells c.sweep.new.low long (rw same at c.sweep.ensures)
 
 pub invariant_of-roads-clause-asked : goal.invariant_of-roads-clause-asked
 invariant_of-roads-clause-asked c =
     let a = c.args in
-    rw c.of-tariff.ensures.1 (may-ask a.net.now a.size a.start a.earliest a.latest a.cells.now c.requires)
+    rw c.of-tariff.ensures.1 (may-ask a.file a.start a.window a.cells.now c.requires)
 
 pub outset-requires : goal.outset-requires
 outset-requires c =
     let a = c.args in (
-      start_fits a.net.now a.size a.start a.earliest a.latest a.cells.now c.requires c.width.result c.width.ensures,
-      start-low a.net.now a.size a.start a.earliest a.latest a.cells.now c.requires,
+      start_fits a.file a.start a.window a.cells.now c.requires c.width.result c.width.ensures,
+      start-low a.file a.start a.window a.cells.now c.requires,
     )
 
 pub sweep-requires : goal.sweep-requires
@@ -28,7 +28,7 @@ sweep-requires c =
     let a = c.args in
     let o = c.outset in
     let f = c.requires in
-    let same : c.of-tariff.result.net.now ≡ a.net.now = cc in (
+    let same : c.of-tariff.result.net.now ≡ a.file.net.now = cc in (
       outset-long a.start c.width.result a.cells.now o.new.cells (replicate 64 0) o.new.low o.ensures refl,
-      rw same (fill_begins a.net.now a.size a.start a.earliest a.latest a.cells.now f c.width.result o.new.cells (replicate 64 0) o.new.low c.width.ensures refl o.ensures),
+      rw same (fill_begins a.file a.start a.window a.cells.now f c.width.result o.new.cells (replicate 64 0) o.new.low c.width.ensures refl o.ensures),
     )

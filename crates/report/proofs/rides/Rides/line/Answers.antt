@@ -6,11 +6,11 @@ use Rattle.report.proofs.rides.Rides.line.Goals as goal
 pub returns : goal.returns
 returns c =
     let e = c.leg_line.ensures in (
-      ride-said _ _ _ _ _ _ _ _ c.pair-leg.ensures.0 c.pair-leg.ensures.1 c.arrival_after-before.ensures e.0,
+      ride-said _ _ _ _ _ _ _ _ c.ride_at-leg.ensures.0 c.ride_at-leg.ensures.1 c.arrival_after-before.ensures e.0,
       e.1,
     )
 
 pub overflow_sub-wait : goal.overflow_sub-wait
 overflow_sub-wait c =
     let a = c.args in
-    omega (arith, (ride-there a.self.now (a.k + 1) (omega (arith, c.requires.0)) a.k (omega arith)).after, c.arrival_after-before.ensures, c.pair-leg.ensures.1)
+    omega (arith, (ride-there a.self.now (a.k + 1) (omega (arith, c.requires.0)) a.k (omega arith)).after, c.arrival_after-before.ensures, c.ride_at-leg.ensures.1)

@@ -1,10 +1,9 @@
 use Rattle.walk.proofs.Cells.{small}
-use Prim.Native.Nat.{◌+◌, ◌-◌}
 use native.Mathlib.Omega.{arith}
 use Rattle.walk.proofs.table.Table.cell.Goals as goal
 
 pub overflow_mul-at : goal.overflow_mul-at
-overflow_mul-at c = let a = c.args in omega (arith, small a.place (a.self.now.query.latest.0 - a.self.now.query.earliest.0 + 1) (omega arith) (omega arith))
+overflow_mul-at c = omega (arith, small c.args.place c.columns-width.result (omega arith) (omega (arith, c.columns-width.ensures)), c.columns-width.ensures)
 
 pub overflow_add-at : goal.overflow_add-at
-overflow_add-at c = let a = c.args in omega (arith, small a.place (a.self.now.query.latest.0 - a.self.now.query.earliest.0 + 1) (omega arith) (omega arith))
+overflow_add-at c = omega (arith, small c.args.place c.columns-width.result (omega arith) (omega (arith, c.columns-width.ensures)), c.columns-width.ensures)

@@ -1,8 +1,0 @@
-use Rattle.plan_file.proofs.Puts.{puts_one, puts_then}
-use Rattle.plan_file.proofs.put_query.Goals as goal
-
-pub returns : goal.returns
-returns c =
-    puts_then
-    (puts_then (puts_then (puts_one c.put.ensures) (puts_one c.put-2.ensures)) (puts_one c.put-3.ensures))
-    (puts_one c.put-4.ensures)

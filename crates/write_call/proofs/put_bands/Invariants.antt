@@ -1,7 +1,0 @@
--- `write_call::put_bands`: the bands passed follow the fields before them, one put each.
-use Rattle.network.specs.Fields.{bands_fields}
-use Rattle.write_call.specs.Steps.{Adds}
-use Rattle.write_call.proofs.put_bands.Given as goal
-
-abbrev pub invariant-loop-k : goal.invariant-loop-k
-invariant-loop-k l = Adds l.initial.out l.out l.at (bands_fields l.k l.leg.bands)
