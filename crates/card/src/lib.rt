@@ -22,7 +22,8 @@ fn slot<const WIDTH: usize>(file: &[u8], bit: usize) -> (u32, u32)
     }
 }
 
-// Writes `count` pairs of a minute and cents of WIDTH bits into the first slots of a card: the steps of a sheet, or the bands of a network.
+// Writes `count` pairs of a minute and cents of WIDTH bits into the first slots of a card: the steps of a sheet, or the bands of a network. Two lists, as whoever
+// has them lends them: a card that owns its slots would ask more.
 pub fn fill<const WIDTH: usize>(
     file: &[u8],
     bit: usize,

@@ -66,7 +66,7 @@ sheet_at net s q = sheet_of (net_in net).places q s
 abbrev pub steps_in : SoundSheet → ℕ → List Step
 steps_in sheet p = place_at sheet.sheet.now (get_or sheet.index p 0)
 
--- a sheet that was judged for this network, up to a minute of the three days
+-- a sheet that was judged for this network, up to a minute of the clock
 pub record Fits (t : Tariff) (sheet : SoundSheet) : Type 0 where
   pub places : sheet.places ≡ t.size.places
   pub end : sheet.window.latest.0 ≤ 2879

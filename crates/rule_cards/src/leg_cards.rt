@@ -12,6 +12,6 @@ pub struct LegCards<'a> {
     pub bands: Card<'a>,
     pub time: Minute,
     pub latest: Minute,
-    // The cards can be looked at, and both minutes are minutes of the three days.
+    // The cards can be looked at, and both numbers are at most the last minute.
     pub ghost fit: { Fit from to bands time.0 latest.0 },
 }

@@ -28,7 +28,7 @@ pub extern "C" fn haul_write(list: &[u32], out: &mut [u8]) -> Reply
     terminal::haul_write(list, out)
 }
 
-// The named plan of a query, as a plan file, with the minute table. Seven values, here and of the sheet: the C interface.
+// The named plan of a query, as a plan file, with the minute table. Two calls alike, this and the sheet's, of seven values each: the C interface.
 #[unsafe(no_mangle)]
 pub extern "C" fn haul_plan(
     net: &[u8],

@@ -13,15 +13,15 @@ use Rattle.read_call.proofs.Results.{reads-refused, reads_short, reads-done}
 use Rattle.read_call.proofs.read.Goals.{In_ok-file}
 use Rattle.read_call.proofs.read.Goals as goal
 
--- the file that was judged is the one that was lent
-sound : (c : In_ok-file) → network_found (of_file c.args.net.now) ≡ Ok c.in_ok-file.file.size
-sound c = let file = c.in_ok-file.file in subst (λ (s : List ℕ). network_found (of_file s) ≡ Ok file.size) c.in_ok-file.ensures file.sound
-
 pub returns-in_err-file : goal.returns-in_err-file
 returns-in_err-file c =
     let why = c.in_err-file.field-0.0 in
     let said : c.from_residual.result ≡ Err why = search rules in
     subst (Reads c.args.net.now c.args.list.now c.args.list.now) (sym said) (reads-refused c.args.net.now c.args.list.now why c.in_err-file.ensures)
+
+-- the file that was judged is the one that was lent
+sound : (c : In_ok-file) → network_found (of_file c.args.net.now) ≡ Ok c.in_ok-file.file.size
+sound c = let file = c.in_ok-file.file in subst (λ (s : List ℕ). network_found (of_file s) ≡ Ok file.size) c.in_ok-file.ensures file.sound
 
 pub returns-then-room-count : goal.returns-then-room-count
 returns-then-room-count c = reads_short _ _ _ (sound (goal.at.returns-then-room-count c).In_ok-file) c.if-room-count.true

@@ -4,7 +4,7 @@ use Prim.Native.Nat.{ℕ}
 use Rattle.chart.proofs.Net.{in-file}
 use Rattle.gate.specs.Gate.{GateSays}
 use Rattle.gate.proofs.Answers.{network-on}
-use Rattle.gate.proofs.gate.Goals as goal
+use Rattle.gate.proofs.judge.Goals as goal
 
 pub returns : goal.returns
 returns c =
