@@ -770,17 +770,18 @@ fn leg_obeys(leg: &Leg, steps: &Steps, cards: &[Card<SLOTS>; 64], latest: usize)
         bands.prices[k] = u32::from(leg.tolls[k]);
     }
     let (here, there, time) = (&cards[from % 64], &cards[to % 64], u32::from(leg.time));
-    let late = |departure: u32| (departure + time) as usize > latest;
+    let Some(last) = (latest as u32).checked_sub(time) else {
+        return true;
+    };
     let covered = |departure: u32, need: u64| there.look(departure + time).is_some_and(|value| value <= need);
-    let steps_obey = (0..steps.count[from]).all(|k| {
+    let steps_obey = (0..here.begun(last)).all(|k| {
         let departure = here.minutes[k % SLOTS];
-        let toll = || bands.look(departure).unwrap_or(0);
-        late(departure) || covered(departure, u64::from(here.prices[k % SLOTS]) + toll())
+        covered(departure, u64::from(here.prices[k % SLOTS]) + bands.look(departure).unwrap_or(0))
     });
     steps_obey
-        && (0..leg.bands as usize).all(|k| {
+        && (0..bands.begun(last)).all(|k| {
             let (departure, toll) = (bands.minutes[k % 8], u64::from(bands.prices[k % 8]));
-            late(departure) || here.look(departure).is_none_or(|value| covered(departure, value + toll))
+            here.look(departure).is_none_or(|value| covered(departure, value + toll))
         })
 }
 

@@ -39,7 +39,7 @@ pub enum Filed {
 pub type PlanAnswer = Result<Filed, Refusal>;
 
 impl Refusal {
-    // The paper's number.
+    // The paper's number. A method and no `From`: its name says which number of the refusal it is.
     pub fn number(self) -> u32
         ensures { result ≡ number_of self }
     {

@@ -4,7 +4,7 @@ use native.Mathlib.Nat.{add-zero, add-suc, add_assoc, mod-lt, zero-div, pow-suc}
 use native.Mathlib.Omega.{arith}
 use mathlib.Core.Path.{◌≡◌, refl, sym, ap, ◌∙◌}
 use mathlib.Core.List.{List}
-use lib.Pow.{high, low, shl_exact}
+use lib.Pow.{high, low}
 use Rattle.bits.specs.Field.{bit, field}
 
 -- a field of no bits is 0
@@ -73,7 +73,3 @@ bits-zero s at w h p from to =
     let place : at + (p - at) ≡ p = omega arith in
     let here : bit s (at + (p - at)) ≡ 0 = rw (field-bit s at w (p - at) (omega arith), h, zero-div (2 ^ (w - suc (p - at)))) in
     rw place at here
-
--- `1 << w` in a 64-bit number
-pub one_shl : (w : ℕ) → w < 64 → 1 * 2 ^ w % 2 ^ 64 ≡ 2 ^ w
-one_shl w h = shl_exact 1 w 64 (omega arith) (omega arith) ∙ omega arith

@@ -1,6 +1,7 @@
 // One field of 1 to 32 bits in lent bytes, most significant bit first, by whole bytes.
-// That a width is 1 to 32, and that a value fits it, is asked in each contract and is no type: each call writes the width as a number, the value's own clause bounds
-// it, and a type would have each call make one first.
+// That a width is 1 to 32, and that a value fits it, is asked in each contract and is no type: from above it comes as a number or as what a subtraction left, here it is
+// handed on to be added and shifted by, and a type would be made at each call and taken apart at each sum; the value's own clause bounds it. A slice, a place and a count
+// stay three in `gather` and `scatter`: their promises speak of bits of the whole, to which those of a part would have to be led back.
 #![tactic(auto)]
 
 ghost use Rattle.std.specs.Prelude.{◌≡◌, ◌+◌, ◌*◌, ◌/◌, ◌%◌, ◌^◌, ◌≤◌, ◌<◌, length, replicate};

@@ -12,7 +12,8 @@ pub struct Cursor<'a> {
     pub at: usize,
 }
 
-// Numbers that stand after their count: how many there are said to be, and the place of the first.
+// Numbers that stand after their count: how many there are said to be, and the place of the first. A file, a place and a count, and no slice: in a damaged file the
+// numbers past its end are 0, and the program `stored` reads on as it did.
 #[derive(Clone, Copy)]
 pub struct Numbers<'a> {
     pub file: &'a [u8],
@@ -64,14 +65,12 @@ impl<'a> Cursor<'a> {
     // The call of a case, if its byte stands for one.
     pub fn call(&mut self) -> Option<Call> {
         let at = within(self.file, self.at);
-        if self.file.len() <= at {
-            return None;
-        }
+        let code = *self.file.get(at)?;
         self.at = at + 1;
-        Call::try_from(self.file[at]).ok()
+        Call::try_from(code).ok()
     }
 
-    // The bytes that stand after their count; none where they are not all there.
+    // The bytes that stand after their count; none where they are not all there, and no Option: as `within`.
     pub fn bytes(&mut self) -> &'a [u8] {
         let at = within(self.file, self.at);
         let count = self.number() as usize;

@@ -50,10 +50,11 @@ fn write_case(cases: &mut Cursor, list: &mut [u32], out: &mut [u8]) -> bool {
     let out = &mut out[..room];
     given.copy_to(list);
     out.fill(LENT_BYTE);
-    terminal::haul_write(list, out) == reply && check::same(out, after)
+    terminal::haul_write(list, out) == reply && &*out == after
 }
 
-// A case of the plan call or the sheet call: the file; start, end, earliest, latest; number, length; the table and the output afterwards.
+// A case of the plan call or the sheet call: the file; start, end, earliest, latest; number, length; the table and the output afterwards. The call takes a query as the four
+// numbers of the C interface.
 fn plan_case<F: Fn(&[u8], u32, u32, u32, u32, &mut [u32], &mut [u8]) -> Reply>(
     cases: &mut Cursor,
     call: &F,
@@ -79,7 +80,7 @@ fn plan_case<F: Fn(&[u8], u32, u32, u32, u32, &mut [u32], &mut [u8]) -> Reply>(
     table.fill(LENT_NUMBER);
     out.fill(LENT_BYTE);
     let answer = call(net, start, end, earliest, latest, table, out);
-    answer == reply && cells.same(table) && check::same(out, after)
+    answer == reply && cells.same(table) && &*out == after
 }
 
 // A case of the gate: the three files; the number.

@@ -10,11 +10,12 @@ ghost use Rattle.chart.specs.Chart.{Chart};
 mod tariff;
 
 use leg::Leg;
-use network::SoundFile;
+use network::{LegInFile, SoundFile};
 use source::File;
 pub use tariff::Tariff;
 
-// The bit at which each leg stands: a leg's head has 28 bits, the last four of them its number of bands, and each band 28.
+// The bit at which each leg stands: a leg's head has 28 bits, and each band 28. By index: the promise speaks of the whole list, and of a part lent to `iter_mut` each
+// fact would have to be led back to it (tried).
 pub fn chart(file: SoundFile<'_>) -> [u32; 512]
     ensures { Chart file.entry.net.now result }
 {
@@ -23,7 +24,11 @@ pub fn chart(file: SoundFile<'_>) -> [u32; 512]
     let mut place = 25;
     for k in 0..legs {
         chart[k] = place as u32;
-        let bands = reader::field(file.net, place + 24, 4) as usize;
+        let leg = LegInFile {
+            net: file.net,
+            at: place,
+        };
+        let bands = leg.count();
         place += 28 + 28 * bands;
     }
     chart
@@ -34,8 +39,6 @@ pub fn leg_at(net: &[u8], places: u32, at: u32) -> Leg
     requires { at ≤ 200000 }
     ensures { result ≡ leg_or_none (leg edition1 places (file_of net.now) at) }
 {
-    match network::leg_from(&File(net), at as usize, places) {
-        Ok((leg, _)) => leg,
-        Err(_) => Leg::none(), // what the promise says of a bit where no leg stands
-    }
+    // No leg stands there: `leg_or_none`, which the promise names, has one for every bit.
+    network::leg_from(&File(net), at as usize, places).map_or(Leg::none(), |(leg, _)| leg)
 }

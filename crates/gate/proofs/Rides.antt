@@ -15,8 +15,7 @@ use Rattle.std.specs.Ordering.{is_lt}
 use Rattle.leg.proofs.Order.{not-earlier}
 use Rattle.bits.specs.Field.{field}
 use Rattle.bits.proofs.Fields.{field_below}
-use Rattle.plan_file.proofs.Files.{plan-size, stated-none, stated-some}
-use Rattle.plan_reader.proofs.Laws.{rides-length}
+use Rattle.plan_file.proofs.Files.{stated-none, stated-some}
 use Rattle.leg.specs.declared.Leg.{Leg}
 use Rattle.leg.specs.Ranges.{minute}
 use Rattle.leg.specs.Toll.{toll_at}
@@ -24,7 +23,7 @@ use Rattle.network.proofs.Sound.{SoundLeg}
 use Rattle.plan.specs.Network.{Minute, Cents, Network, Query}
 use Rattle.plan.specs.Plan.{Ride, Follows, Runs}
 use Rattle.plan.proofs.Legs.{toll-most}
-use Rattle.plan_reader.specs.InPlace.{ride_at, rides_at, file_at, Says}
+use Rattle.plan_reader.specs.InPlace.{ride_at, rides_at, file_at}
 use Rattle.rule_b.specs.Rule.{Is}
 use Rattle.plan_file.specs.PlanFile.{stated}
 use Rattle.chart.specs.Net.{net_in, theory_in, leg_in}
@@ -52,14 +51,6 @@ rode-on s r state l toll is low here after paid small = record {
   cost = ap (λ (x : ℕ). state.cost.0 + x) (paid ∙ ap (λ (x : Leg). toll_at x r.leave) is);
   near = omega arith;
 }
-
--- the plan file has room for each of its rides, and has few
-module _ (s : List ℕ) (h : Says s (file_at s)) where
-  pub says-few : field s 77 12 ≤ 63
-  says-few = omega (arith, h.allowed.few, rides-length s (field s 77 12))
-
-  pub says-room : 89 + 21 * field s 77 12 ≤ 8 * length s
-  says-room = omega (arith, plan-size (file_at s) s h.file, rides-length s (field s 77 12))
 
 module _ (N : Network) (goes : (l : ℕ) (d : Minute) → T (N.goes l d)) (q : Query) (s : List ℕ) where
   pub riding-none : (state : State) → state.place ≡ q.start → state.time.0 ≡ q.earliest → state.cost.0 ≡ 0 → Riding N q s 0 state

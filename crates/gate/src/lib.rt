@@ -1,10 +1,10 @@
 // The gate: a plan and a sheet that anybody may have written are judged against a network.
 #![tactic(auto)]
 
-ghost use Rattle.std.specs.Prelude.{◌≡◌, ◌+◌, ◌*◌, ◌≤◌, ◌<◌, length};
+ghost use Rattle.std.specs.Prelude.{◌≡◌, ◌≤◌, ◌<◌};
 ghost use Rattle.plan_file.specs.PlanFile.{query_of};
 ghost use Rattle.leg.specs.Price.{price_of};
-ghost use Rattle.plan_reader.specs.InPlace.{ride_at, file_at, Says, Headed};
+ghost use Rattle.plan_reader.specs.InPlace.{ride_at, file_at};
 ghost use Rattle.std.proofs.Math.Option.{some};
 ghost use Rattle.plan.specs.Sheet.{value};
 ghost use Rattle.rule_b.specs.Rule.{Is};
@@ -22,7 +22,7 @@ use judging::Judging;
 use leg::{Cents, Minute};
 use network::SoundFile;
 use plan_file::Query;
-use plan_reader::Plan;
+use plan_reader::SoundPlan;
 use rule_cards::LaidSheet;
 use sheet_file::{SheetPlace, SoundSheet};
 
@@ -47,11 +47,11 @@ pub struct State {
 }
 
 // One ride of a plan further, if it can be boarded. Tariff and plan stay two values: a struct of both would be made for this, `ridden` and `plan_holds` alone.
-fn ride(tariff: &Tariff, plan: &[u8], k: usize, state: State) -> Option<State>
-    requires { (89 + 21 * (k + 1) ≤ 8 * length plan.now) × (k ≤ 4096) × (state.cost.0 ≤ 1000000000) }
-    ensures { RodeTo (theory_in tariff.now.net.now) (ride_at plan.now k) state result }
+fn ride(tariff: &Tariff, plan: &SoundPlan, k: usize, state: State) -> Option<State>
+    requires { (k < plan.now.legs) × (state.cost.0 ≤ 1000000000) }
+    ensures { RodeTo (theory_in tariff.now.net.now) (ride_at plan.now.bytes.now k) state result }
 {
-    let (number, departure) = plan_reader::ride_at(plan, k);
+    let (number, departure) = plan.ride(k);
     let number = number as usize;
     if tariff.size.legs <= number {
         return None;
@@ -71,17 +71,16 @@ fn ride(tariff: &Tariff, plan: &[u8], k: usize, state: State) -> Option<State>
     })
 }
 
-// Where the first rides of a plan lead, if each can be boarded.
-fn ridden(tariff: &Tariff, plan: &[u8], query: Query, legs: usize) -> Option<State>
-    requires { (legs ≤ 63) × (89 + 21 * legs ≤ 8 * length plan.now) }
-    ensures { Ridden (theory_in tariff.now.net.now) (query_of query) plan.now legs result }
+// Where the rides of a plan lead, if each can be boarded.
+fn ridden(tariff: &Tariff, plan: &SoundPlan) -> Option<State>
+    ensures { Ridden (theory_in tariff.now.net.now) (query_of plan.now.query) plan.now.bytes.now plan.now.legs result }
 {
     let mut state = State {
-        place: query.start,
-        time: query.earliest,
+        place: plan.query.start,
+        time: plan.query.earliest,
         cost: Total(0),
     };
-    for k in 0..legs {
+    for k in 0..plan.legs {
         state = ride(tariff, plan, k, state)?;
     }
     Some(state)
@@ -94,22 +93,21 @@ fn arrived(state: State, query: Query, stated: Cents) -> bool
     state.place == query.end && state.time <= query.latest && state.cost == Total::from(stated)
 }
 
-// Is the plan feasible, at the cost that it states? "None" states nothing.
-fn plan_holds(tariff: &Tariff, plan: &[u8], read: Plan) -> bool
-    requires { Says plan.now (file_at plan.now) × Headed plan.now read }
-    ensures { Is result (Holds (theory_in tariff.now.net.now) (file_at plan.now)) }
+// Is the plan feasible, at the cost that it states? "None" states nothing. A `match` and no `is_some_and`: tried, and the proof did not close, since what a ride that cannot
+// be boarded says is told by the arm.
+fn plan_holds(tariff: &Tariff, plan: &SoundPlan) -> bool
+    ensures { Is result (Holds (theory_in tariff.now.net.now) (file_at plan.now.bytes.now)) }
 {
-    let Some(stated) = read.stated else {
+    let Some(stated) = plan.stated else {
         return true;
     };
-    let query = read.query;
-    match ridden(tariff, plan, query, read.legs) {
-        Some(state) => arrived(state, query, stated),
+    match ridden(tariff, plan) {
+        Some(state) => arrived(state, plan.query, stated),
         None => false,
     }
 }
 
-// Rule (a): does the place have the value 0 at earliest?
+// Rule (a): does the place have the value 0 at earliest? (That this minute comes, here and in `tight`: see `leg::Minute`.)
 fn starts(place: SheetPlace<'_>) -> bool
     requires { place.window.earliest.0 < 4096 }
     ensures { Is result (value (steps_of place.entry) place.entry.window.earliest.0 ≡ some 0) }
@@ -143,29 +141,28 @@ fn tight(place: SheetPlace<'_>, stated: Option<Cents>) -> bool
 }
 
 // The sheet, after the plan.
-fn judge_sheet(tariff: &Tariff, sheet: &[u8], read: Plan) -> Result<(), Refusal>
-    requires { Asked tariff.now.net.now (query_of read.query) }
-    ensures { OfSheet result (theory_in tariff.now.net.now) (query_of read.query) (price_of read.stated) (sheet_at tariff.now.net.now sheet.now (query_of read.query)) }
+fn judge_sheet(tariff: &Tariff, sheet: &[u8], plan: &SoundPlan) -> Result<(), Refusal>
+    requires { Asked tariff.now.net.now (query_of plan.now.query) }
+    ensures { OfSheet result (theory_in tariff.now.net.now) (query_of plan.now.query) (price_of plan.now.stated) (sheet_at tariff.now.net.now sheet.now (query_of plan.now.query)) }
 {
-    let query = read.query;
+    let query = plan.query;
     let judged = sheet_file::sheet_from(sheet, tariff.size.places, query.window()).ok_or(
         Refusal::SheetFile,
     )?;
     if !obeys(tariff, &judged, query.start as usize) {
         return Err(Refusal::Rules);
     }
-    if !tight(judged.place(query.end as usize), read.stated) {
+    if !tight(judged.place(query.end as usize), plan.stated) {
         return Err(Refusal::Loose);
     }
     Ok(())
 }
 
-// The query and the plan, then the sheet. A query's two tests stand in `tabled` too, where a third follows them: one function for both would be no shorter.
-fn judge_plan(file: SoundFile<'_>, sheet: &[u8], plan: &[u8], read: Plan) -> Result<(), Refusal>
-    requires { Says plan.now (file_at plan.now) × Headed plan.now read }
-    ensures { OfPlan result (net_in file.entry.net.now) (file_at plan.now) sheet.now }
+// The query and the plan, then the sheet. A query's two tests stand in `tabled` too, where a third follows them: one function for both, with its contract, would be no shorter.
+fn judge_plan(file: SoundFile<'_>, sheet: &[u8], plan: &SoundPlan) -> Result<(), Refusal>
+    ensures { OfPlan result (net_in file.entry.net.now) (file_at plan.now.bytes.now) sheet.now }
 {
-    let query = read.query;
+    let query = plan.query;
     if !query.known(file.size.places) {
         return Err(Refusal::Query);
     }
@@ -173,18 +170,18 @@ fn judge_plan(file: SoundFile<'_>, sheet: &[u8], plan: &[u8], read: Plan) -> Res
         return Err(Refusal::Window);
     }
     let tariff = Tariff::of(file);
-    if !plan_holds(&tariff, plan, read) {
+    if !plan_holds(&tariff, plan) {
         return Err(Refusal::Plan);
     }
-    judge_sheet(&tariff, sheet, read)
+    judge_sheet(&tariff, sheet, plan)
 }
 
 // The plan file, after the network.
 fn judge_files(file: SoundFile<'_>, plan: &[u8], sheet: &[u8]) -> Result<(), Refusal>
     ensures { OfFiles result (net_in file.entry.net.now) plan.now sheet.now }
 {
-    let read = plan_reader::plan_from(plan).ok_or(Refusal::PlanFile)?;
-    judge_plan(file, sheet, plan, read)
+    let judged = plan_reader::plan_from(plan).ok_or(Refusal::PlanFile)?;
+    judge_plan(file, sheet, &judged)
 }
 
 // The network, then the other files.

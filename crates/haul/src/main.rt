@@ -1,19 +1,15 @@
 // haul: a query and a network on standard input, the plan as text on standard output.
 #![tactic(auto)]
 
-ghost use Rattle.std.specs.Prelude.{◌≤◌, length};
-
 use std::io;
 
 fn run<R: Input + Print>(
     rt: &R,
     input: &mut [u8],
     table: &mut [u32],
-    plan: &mut [u8],
-    text: &mut [u8],
-) -> io::Result<()>
-    requires { (177 ≤ length plan.old) × (4096 ≤ length text.old) }
-{
+    plan: &mut [u8; 177],
+    text: &mut [u8; 4096],
+) -> io::Result<()> {
     let size = input::read_full(&mut rt.reader(), input);
     let written = report::report(&input[..size], table, plan, text);
     Print::write_all(rt, &text[..written])

@@ -8,7 +8,8 @@ use borrow.Author.Tests.{le-leb, lt-leb}
 use lib.ListN.{get_or}
 use Rattle.leg.specs.declared.Band.{Band}
 use Rattle.std.specs.Prelude.{Some, None}
-use Rattle.leg.specs.Ranges.{no_band, some_if}
+use Rattle.std.specs.Bool.{then_some}
+use Rattle.leg.specs.Ranges.{no_band}
 use Rattle.leg.specs.Toll.{either, toll_of_first}
 
 module _ (k : ℕ) (bands : List Band) (t : ℕ) where
@@ -21,10 +22,10 @@ module _ (k : ℕ) (bands : List Band) (t : ℕ) where
   toll-later h = rw add-one (rw (lt-leb (get_or bands k no_band).start.0 t h, either))
 
 -- what a test's answer tells of the test
-pub some-passed : {A : Type 0} (t : Bool) (a b : A) → some_if t a ≡ Some b → (t ≡ true) × (b ≡ a)
+pub some-passed : {A : Type 0} (t : Bool) (a b : A) → then_some t a ≡ Some b → (t ≡ true) × (b ≡ a)
 some-passed true a b e = (refl, cc)
 some-passed false a b e = (cc, cc)
 
-pub none-failed : {A : Type 0} (t : Bool) (a : A) → some_if t a ≡ None → t ≡ false
+pub none-failed : {A : Type 0} (t : Bool) (a : A) → then_some t a ≡ None → t ≡ false
 none-failed true a e = cc
 none-failed false a e = refl

@@ -1,5 +1,6 @@
 -- What a minute, a toll and a leg's bands may hold (document 01, "Networks, plans, costs").
-use Rattle.std.specs.Prelude.{ℕ, Bool, true, false, List, Option, Some, None, leb, replicate, ◌&&◌}
+use Rattle.std.specs.Prelude.{ℕ, List, Option, leb, replicate, ◌&&◌}
+use Rattle.std.specs.Bool.{then_some}
 use Rattle.leg.specs.declared.Minute.{Minute}
 use Rattle.leg.specs.declared.Cents.{Cents}
 use Rattle.leg.specs.declared.Band.{Band}
@@ -25,22 +26,17 @@ minute n = record { 0 = n }
 abbrev pub cents : ℕ → Cents
 cents n = record { 0 = n }
 
--- what passed its test, or nothing
-abbrev pub some_if : {A : Type 0} → Bool → A → Option A
-some_if true a = Some a
-some_if false a = None
-
 -- the minute n, if it is one
 abbrev pub minute_of : ℕ → Option Minute
-minute_of n = some_if (leb n last_minute) (minute n)
+minute_of n = then_some (leb n last_minute) (minute n)
 
 -- a toll of n cents, if it is in range
 abbrev pub cents_of : ℕ → Option Cents
-cents_of n = some_if (leb n most_cents) (cents n)
+cents_of n = then_some (leb n most_cents) (cents n)
 
 -- n bands, if a leg may have as many
 abbrev pub count_of : ℕ → Option ℕ
-count_of n = some_if (leb 1 n && leb n most_bands) n
+count_of n = then_some (leb 1 n && leb n most_bands) n
 
 -- a band that starts at this minute and has this toll
 abbrev pub band_of : ℕ → ℕ → Band

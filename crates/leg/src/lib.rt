@@ -13,7 +13,8 @@ pub struct Minute(pub u32);
 #[derive(Clone, Copy, PartialEq, Eq, PartialOrd, Ord)]
 pub struct Cents(pub u32);
 
-// The minutes from earliest to latest, both counted.
+// The minutes from earliest to latest, both counted. That it is in order and within the clock is asked where it matters and is no ghost field: a query that was not
+// tested yet has a window too.
 #[derive(Clone, Copy)]
 pub struct Window {
     pub earliest: Minute,
@@ -40,9 +41,9 @@ pub struct Leg {
 }
 
 impl Minute {
-    // A number of 13 bits, so that no field holds it: a minute that never comes. No Option: a card counts by adding it, and a cursor with nothing left compares as later
-    // than every minute; an Option would be taken apart at both. That a minute comes (it is below this) is asked where it goes into a field or a card, and is no type: each
-    // call would have to make one first.
+    // A number of 13 bits, so that no field holds it: a minute that never comes. No Option: a slot that is not taken and a cursor with nothing left compare as later than
+    // every minute; an Option would be taken apart at each. That a minute comes (it is below this) is asked where it goes into a field or a card, and is no type: each
+    // call would have to make one first. Nor is it a type that a minute is at most the last one: this one and the clock's end are minutes too.
     pub const NEVER: u32 = 4096;
 
     pub const LAST: u32 = 2879;
@@ -50,15 +51,12 @@ impl Minute {
     // How many minutes there are, 0 and the last among them.
     pub const COUNT: u32 = 2880;
 
-    // The minute n, if it is one.
+    // The minute n, if it is one. This and `Cents::new` are one expression each: one constructor for both would be over a trait with the limit and the making, and be
+    // longer than the two.
     pub fn new(n: u32) -> Option<Minute>
         ensures { result ≡ minute_of n }
     {
-        if n <= Minute::LAST {
-            Some(Minute(n))
-        } else {
-            None
-        }
+        (n <= Minute::LAST).then_some(Minute(n))
     }
 }
 
@@ -69,11 +67,7 @@ impl Cents {
     pub fn new(n: u32) -> Option<Cents>
         ensures { result ≡ cents_of n }
     {
-        if n <= Cents::MOST {
-            Some(Cents(n))
-        } else {
-            None
-        }
+        (n <= Cents::MOST).then_some(Cents(n))
     }
 }
 
@@ -120,13 +114,9 @@ impl Leg {
     pub fn band_count(n: u32) -> Option<usize>
         ensures { result ≡ count_of n }
     {
-        if n < Leg::FEWEST_BANDS {
-            return None;
-        }
-        if Leg::MOST_BANDS < n {
-            return None;
-        }
-        Some(n as usize)
+        (Leg::FEWEST_BANDS..=Leg::MOST_BANDS)
+            .contains(&n)
+            .then_some(n as usize)
     }
 
     // A leg of 1 to 8 bands, with a driving time that is in range.

@@ -68,17 +68,13 @@ pub fn band_from<S: Origin>(source: &S, at: usize, least: u32) -> Found<Band>
     ensures { result ≡ given (band least (S.source source.now) at) }
 {
     let fields = source.band(at);
-    if fields.have == 0 {
-        return Err(Refusal::Short);
-    }
-    let start = Minute::new(fields.a).ok_or(Refusal::Range)?;
-    if !rises(least, fields.a) {
+    let start = fields.get(0).ok_or(Refusal::Short)?;
+    let start = Minute::new(start).ok_or(Refusal::Range)?;
+    if !rises(least, start.0) {
         return Err(Refusal::Order);
     }
-    if fields.have == 1 {
-        return Err(Refusal::Short);
-    }
-    let toll = Cents::new(fields.b).ok_or(Refusal::Range)?;
+    let toll = fields.get(1).ok_or(Refusal::Short)?;
+    let toll = Cents::new(toll).ok_or(Refusal::Range)?;
     Ok((Band::new(start, toll), fields.after))
 }
 
@@ -88,36 +84,28 @@ pub fn head_from<S: Origin>(source: &S, at: usize, places: u32) -> Found<Head>
     ensures { result ≡ given (head edition1 places (S.source source.now) at) }
 {
     let fields = source.head(at);
-    if fields.have == 0 {
-        return Err(Refusal::Short);
-    }
-    if places <= fields.a {
+    let from = fields.get(0).ok_or(Refusal::Short)?;
+    if places <= from {
         return Err(Refusal::Range);
     }
-    if fields.have == 1 {
-        return Err(Refusal::Short);
-    }
-    if places <= fields.b {
+    let to = fields.get(1).ok_or(Refusal::Short)?;
+    if places <= to {
         return Err(Refusal::Range);
     }
-    if fields.have == 2 {
-        return Err(Refusal::Short);
-    }
-    let time = Minute::new(fields.c).ok_or(Refusal::Range)?;
-    if fields.have == 3 {
-        return Err(Refusal::Short);
-    }
-    let count = Leg::band_count(fields.d).ok_or(Refusal::Range)?;
+    let time = fields.get(2).ok_or(Refusal::Short)?;
+    let time = Minute::new(time).ok_or(Refusal::Range)?;
+    let count = fields.get(3).ok_or(Refusal::Short)?;
+    let count = Leg::band_count(count).ok_or(Refusal::Range)?;
     let head = Head {
-        from: fields.a,
-        to: fields.b,
+        from,
+        to,
         time,
         count,
     };
     Ok((head, fields.after))
 }
 
-// The bands of a leg, after its head.
+// The bands of a leg, after its head. By index: the definition speaks of all eight places, and of a part lent to `iter_mut` each fact would have to be led back to them.
 pub fn bands_from<S: Origin>(source: &S, at: usize, head: Head) -> Found<Leg>
     requires { (at ≤ 900000) × (1 ≤ head.count) × (head.count ≤ 8) × (head.time.0 ≤ last_minute) }
     ensures { result ≡ given (bands head.count 0 (bare edition1 head) (S.source source.now) at) }
@@ -151,30 +139,21 @@ pub fn top_from<S: Origin>(source: &S) -> Found<Top>
     ensures { result ≡ given (top (S.source source.now) 0) }
 {
     let fields = source.top();
-    if fields.have == 0 {
-        return Err(Refusal::Short);
-    }
-    if fields.a != Top::EDITION {
+    let edition = fields.get(0).ok_or(Refusal::Short)?;
+    if edition != Top::EDITION {
         return Err(Refusal::Edition);
     }
-    if fields.have == 1 {
-        return Err(Refusal::Short);
-    }
-    if fields.b < 1 {
+    let places = fields.get(1).ok_or(Refusal::Short)?;
+    if places < 1 || Top::MOST_PLACES < places {
         return Err(Refusal::Range);
     }
-    if Top::MOST_PLACES < fields.b {
-        return Err(Refusal::Range);
-    }
-    if fields.have == 2 {
-        return Err(Refusal::Short);
-    }
-    if Top::MOST_LEGS < fields.c {
+    let legs = fields.get(2).ok_or(Refusal::Short)?;
+    if Top::MOST_LEGS < legs {
         return Err(Refusal::Range);
     }
     let top = Top {
-        places: fields.b,
-        legs: fields.c as usize,
+        places,
+        legs: legs as usize,
     };
     Ok((top, fields.after))
 }

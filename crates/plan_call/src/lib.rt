@@ -26,8 +26,8 @@ fn answer(file: SoundFile<'_>, table: Table<'_>, out: &mut [u8]) -> PlanAnswer
         return Ok(Filed::NoPlan(12));
     }
     let arrival = table.first(query.end, query.latest, 64);
-    let legs = table.cell(query.end, arrival) % 64;
-    let bytes = (96 + 21 * legs) / 8;
+    let legs = rows::legs_of(table.cell(query.end, arrival));
+    let bytes = (89 + 21 * legs).div_ceil(8);
     if out.len() < bytes as usize {
         return Err(Refusal::Room);
     }

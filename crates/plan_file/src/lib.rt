@@ -17,6 +17,7 @@ pub enum Verdict {
 }
 
 impl Verdict {
+    // A method and no `From`: its name says which number of the verdict it is.
     fn number(self) -> u32
         ensures { result ≡ verdict_of self }
     {
@@ -56,18 +57,19 @@ impl Query {
         }
     }
 
-    // Are start and end two of so many places, and the times minutes? Numbers are compared here: it is the test by which a number becomes a minute.
+    // Are start and end two of so many places, and the times minutes of the clock?
     pub fn known(self, places: u32) -> bool
         ensures { result ≡ known places (query_of self) }
     {
         self.start < places
             && self.end < places
-            && self.earliest.0 <= Minute::LAST
-            && self.latest.0 <= Minute::LAST
+            && self.earliest <= Minute(Minute::LAST)
+            && self.latest <= Minute(Minute::LAST)
     }
 }
 
-// Everything before the rides. A verdict and a cost, and no optional cost in place of both: the promise covers each pair of them.
+// Everything before the rides. A verdict and a cost, and no optional cost in place of both: the promise covers each pair of them. At fixed bits, and by no writer that
+// holds its bit: `Puts` speaks of the bit, and a ride is put where its number says, not behind the last one.
 pub fn put_head(out: &mut [u8], verdict: Verdict, query: Query, cost: Cents, legs: u32)
     requires { (12 ≤ length out.old) × InWidth query × (legs < 4096) }
     ensures { Puts out.old out.new 0 (head_fields (verdict_of verdict) (query_of query) cost.0 legs) }
@@ -88,7 +90,8 @@ pub fn put_head(out: &mut [u8], verdict: Verdict, query: Query, cost: Cents, leg
     bits::put(out, 77, 12, legs);
 }
 
-// The ride that stands at place `index`, counted from the first.
+// The ride that stands at place `index`, counted from the first: its leg and its departure as two values, since docs/PROMISES.md names this function. That the minute
+// comes, here and in `InWidth`: see `leg::Minute`.
 pub fn put_ride(out: &mut [u8], index: u32, leg: u32, departure: Minute)
     requires { (leg < 512) × (departure.0 < 4096) × (index < 4096) × (89 + 21 * (index + 1) ≤ 8 * length out.old) }
     ensures { Puts out.old out.new (89 + 21 * index) (ride_fields (ride_of leg departure.0)) }

@@ -49,8 +49,8 @@ module _ (s : List ℕ) where
     pub says-long : 12 ≤ length s
     says-long = omega (arith, plan-size f s h.file)
 
-    pub says-head : HeadAllowed s
-    says-head =
+    pub says_head : HeadAllowed s
+    says_head =
         let d = plan-head f s h.file in
         record {
           edition = d.edition;
@@ -72,3 +72,11 @@ module _ (s : List ℕ) where
 
     pub says-one : f ≡ file_at s → Says s (file_at s)
     says-one e = subst (λ (x : PlanFile). Says s x) e h
+
+-- the plan file has room for each of its rides, and has few
+module _ (s : List ℕ) (h : Says s (file_at s)) where
+  pub says-few : field s 77 12 ≤ 63
+  says-few = (says_head s (file_at s) h).few
+
+  pub says-room : 89 + 21 * field s 77 12 ≤ 8 * length s
+  says-room = omega (arith, plan-size (file_at s) s h.file, rides-length s (field s 77 12))

@@ -1,11 +1,12 @@
 -- A plan file where it stands: what a reading in place goes by.
-use Rattle.std.specs.Prelude.{ℕ, zero, suc, ◌+◌, ◌*◌, ◌≤◌, ◌≡◌, List, [], ◌∷◌, Option, Some, None}
+use Rattle.std.specs.Prelude.{ℕ, zero, suc, ◌+◌, ◌*◌, ◌≤◌, ◌≡◌, List, [], ◌∷◌, Option}
+use Rattle.leg.specs.declared.Cents.{Cents}
 use Rattle.leg.specs.Price.{price_of}
 use Rattle.bits.specs.Field.{field}
 use Rattle.plan.specs.Network.{Query}
 use Rattle.plan.specs.Plan.{Ride}
+use Rattle.plan_file.specs.declared.Query.{Query as Asked}
 use Rattle.plan_file.specs.PlanFile.{PlanFile, FileOf, Allowed, most_legs, ride_of, query_of, stated}
-use Rattle.plan_reader.specs.declared.Plan.{Plan}
 
 -- ride k of the bytes, counted from the first
 abbrev pub ride_at : List ℕ → ℕ → Ride
@@ -41,18 +42,8 @@ pub record HeadAllowed (s : List ℕ) : Type 0 where
   pub none_price : field s 8 1 ≡ 0 → field s 45 32 ≡ 0
   pub none_legs : field s 8 1 ≡ 0 → field s 77 12 ≡ 0
 
--- the head, as it is handed on
-pub record Headed (s : List ℕ) (r : Plan) : Type 0 where
-  pub stated : price_of r.stated ≡ stated (file_at s)
-  pub query : query_of r.query ≡ (file_at s).query
-  pub legs : r.legs ≡ field s 77 12
-
--- a head that was found is handed on; where none was, it is not allowed
-abbrev pub HeadTold : List ℕ → Option Plan → Type 0
-HeadTold s (Some r) = HeadAllowed s × Headed s r
-HeadTold s None = HeadAllowed s → ⊥
-
--- a plan that was found is what the bytes say; where none was, they say nothing
-abbrev pub Told : List ℕ → Option Plan → Type 0
-Told s (Some r) = Says s (file_at s) × Headed s r
-Told s None = (f : PlanFile) → Says s f → ⊥
+-- what a plan file says, but for its rides, as it is handed on
+pub record Headed (s : List ℕ) (cost : Option Cents) (query : Asked) (legs : ℕ) : Type 0 where
+  pub stated_is : price_of cost ≡ stated (file_at s)
+  pub query_is : query_of query ≡ (file_at s).query
+  pub legs_is : legs ≡ field s 77 12

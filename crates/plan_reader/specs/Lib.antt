@@ -1,1 +1,3 @@
 pub mod InPlace
+pub mod Unique
+pub mod SoundPlan

@@ -3,24 +3,14 @@
 
 ghost use Rattle.std.specs.Prelude.{◌≡◌, ◌+◌, ◌*◌, ◌≤◌, length};
 ghost use Rattle.plan_file.specs.PlanFile.{verdict_of, query_of};
-ghost use Rattle.plan_reader.specs.InPlace.{query_at, ride_at, file_at, HeadTold, Told};
+ghost use Rattle.plan_reader.specs.InPlace.{query_at, ride_at, file_at};
+ghost use Rattle.plan_reader.specs.SoundPlan.{Told};
+
+mod sound_plan;
 
 use leg::{Cents, Minute};
 use plan_file::{Query, Verdict};
-
-// What a plan file says, but for its rides: with "none" it states no cost.
-#[derive(Clone, Copy)]
-pub struct Plan {
-    pub stated: Option<Cents>,
-    pub query: Query,
-    pub legs: usize,
-}
-
-impl Plan {
-    pub const EDITION: u32 = 1;
-
-    pub const MOST_LEGS: usize = 63;
-}
+pub use sound_plan::SoundPlan;
 
 // The query that stands from a bit on.
 pub fn query_at(bytes: &[u8], bit: usize) -> Query
@@ -56,17 +46,23 @@ fn verdict(plan: &[u8]) -> Verdict
     }
 }
 
-// The head of a plan file that has one: edition 1, at most 63 legs, and "none" with cost 0 and no legs.
-fn head(plan: &[u8]) -> Option<Plan>
-    requires { 12 ≤ length plan.now }
-    ensures { HeadTold plan.now result }
+// A whole plan file: edition 1, at most 63 legs, zero fill bits and nothing after them, and "none" with cost 0 and no legs.
+#[tactic(auto, using(crate::proofs::Laws::says_head))]
+pub fn plan_from<'a>(plan: &'a [u8]) -> Option<SoundPlan<'a>>
+    ensures { Told plan.now result }
 {
+    if plan.len() < 12 {
+        return None;
+    }
     let edition = reader::field(plan, 0, 8);
-    if edition != Plan::EDITION {
+    if edition != SoundPlan::EDITION {
         return None;
     }
     let legs = reader::field(plan, 77, 12) as usize;
-    if Plan::MOST_LEGS < legs {
+    if SoundPlan::MOST_LEGS < legs {
+        return None;
+    }
+    if !reader::ends(plan, 89 + 21 * legs) {
         return None;
     }
     let cost = reader::field(plan, 45, 32);
@@ -79,24 +75,10 @@ fn head(plan: &[u8]) -> Option<Plan>
             None
         }
     };
-    Some(Plan {
+    Some(SoundPlan {
+        bytes: plan,
         stated,
         query: query_at(plan, 9),
         legs,
     })
-}
-
-// A whole plan file: zero fill bits and nothing after them.
-pub fn plan_from(plan: &[u8]) -> Option<Plan>
-    ensures { Told plan.now result }
-{
-    if plan.len() < 12 {
-        return None;
-    }
-    let read = head(plan)?;
-    if reader::ends(plan, 89 + 21 * read.legs) {
-        Some(read)
-    } else {
-        None
-    }
 }

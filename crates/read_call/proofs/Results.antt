@@ -24,14 +24,6 @@ of-refused : (x : Found Network) (why : Refusal) → network_found x ≡ Err why
 of-refused (refused w) why e = cc
 of-refused (found n at) why e = cc
 
-pub reads-refused : (net list : List ℕ) (why : Refusal) → network_found (of_file net) ≡ Err why → Reads net list list (Err why)
-reads-refused net list why e =
-    let r = of-refused (of_file net) why e in
-    record {
-      answer_is = sym (ap (λ (x : Found Network). read_answer x (length list)) r);
-      list_is = sym (ap (λ (x : Found Network). listed x list) r);
-    }
-
 module _ (net list : List ℕ) (size : Size) (e : network_found (of_file net) ≡ Ok size) where
   file : SoundFile net size
   file = sound-file net size e

@@ -3,17 +3,14 @@ use Prim.Native.Nat.{ℕ, suc, ◌+◌, ◌*◌, ◌≤◌}
 use mathlib.Core.Path.{◌≡◌, ◌∙◌}
 use mathlib.Core.List.{List, [], ◌∷◌, ◌++◌}
 use native.Mathlib.Nat.{add_assoc, add-zero, add-suc, suc-add, zero-add}
-use native.Mathlib.Numerals.{add-four}
 use native.Mathlib.Omega.{arith}
 use lib.ListN.{length, length-map, set, get_or, drop}
 use Rattle.bits.specs.Packed.{Entry}
 use Rattle.leg.specs.declared.Band.{Band}
-use Rattle.leg.specs.declared.Leg.{Leg}
 use Rattle.leg.specs.Ranges.{no_band}
 use Rattle.source.specs.Source.{fields_at, head_widths}
 use Rattle.network.specs.InFile.{leg_at}
-use Rattle.network.specs.Network.{edition1}
-use Rattle.network.specs.Fields.{band_fields, bands_fields, leg_fields, values}
+use Rattle.network.specs.Fields.{band_fields, bands_fields, values}
 use Rattle.network.proofs.Fields.{bands-fields-more, bands-count, values-append}
 use lib.Seq.{sets, sets-eq}
 
@@ -32,12 +29,6 @@ band-stored l at k bs =
 -- a head's fields are the numbers of the leg that stands there
 pub head-fields : (s : List ℕ) (at : ℕ) → fields_at s at head_widths ≡ (leg_at s at).from ∷ (leg_at s at).to ∷ (leg_at s at).time.0 ∷ (leg_at s at).count ∷ []
 head-fields s at = rw (add_assoc at 6 6, add_assoc at 12 12)
-
--- a leg's head, then its bands
-pub leg-stored : (l : List ℕ) (at : ℕ) (leg : Leg)
-    → sets (sets l at (leg.from ∷ leg.to ∷ leg.time.0 ∷ leg.count ∷ [])) (at + 4) (values (bands_fields leg.count leg.bands))
-    ≡ sets l at (values (leg_fields edition1 leg))
-leg-stored l at leg = rw add-four
 
 -- a run of stores from the front
 pub front : (l vs : List ℕ) → length vs ≤ length l → sets l 0 vs ≡ vs ++ drop (length vs) l

@@ -17,8 +17,8 @@ fn store<const N: usize>(list: &mut [u32], at: usize, numbers: &[u32; N])
     requires { at + N ≤ length list.old }
     ensures { list.new ≡ sets list.old at numbers.now }
 {
-    for k in 0..N {
-        list[at + k] = numbers[k];
+    for (k, &number) in numbers.iter().enumerate() {
+        list[at + k] = number;
     }
 }
 

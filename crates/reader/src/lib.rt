@@ -1,5 +1,7 @@
 // A bit reader: a lent file and the bit at which it reads. Fields are taken one after another straight from the lent bytes.
-// That a width is 1 to 32 is asked in each contract and is no type: each call writes it as a number, and a type would have each call make one first.
+// That a width is 1 to 32 is asked in each contract and is no type: a call writes it as a number, or hands on one that it was given or reckoned, and would make the type
+// first. A file and a bit stay two for `field`, `pair`, `there` and `ends`, and in `source`: who calls them reads at a bit that was just reckoned, once, and would open a
+// reader for that.
 #![tactic(auto)]
 
 ghost use Rattle.std.specs.Prelude.{◌≡◌, ◌+◌, ◌*◌, ◌^◌, ◌≤◌, ◌<◌, leb, length};
@@ -34,8 +36,8 @@ impl<'a> Reader<'a> {
         ensures { (result.file ≡ self.entry.file) × (result.at ≡ self.entry.at + width) }
     {
         Reader {
-            file: self.file,
             at: self.at + width,
+            ..self
         }
     }
 }

@@ -1,7 +1,7 @@
 -- The rides in a plan file's bytes: fewer of them, one of them, and when they arrive.
 use Prim.Native.Nat.{ℕ, zero, suc, ◌+◌, ◌-◌, ◌*◌, ◌≤◌, ◌<◌}
 use native.Mathlib.Omega.{arith}
-use mathlib.Core.Path.{◌≡◌, refl, sym, ap, ◌∙◌, subst}
+use mathlib.Core.Path.{◌≡◌, refl, ap, ◌∙◌, subst}
 use mathlib.Core.List.{List, [], ◌∷◌}
 use lib.ListN.{length}
 use Rattle.bits.specs.Field.{field}
@@ -14,7 +14,7 @@ use Rattle.plan.specs.Network.{Network, Query}
 use Rattle.plan.specs.Plan.{Ride, arrival, Runs, Follows}
 use Rattle.plan_file.specs.PlanFile.{query_of, ride_of, rides_fields}
 use Rattle.plan_file.proofs.Files.{rides-last}
-use Rattle.walk.proofs.Nets.{has-leg, sound-leg}
+use Rattle.walk.proofs.Nets.{sound-leg}
 use Rattle.text.specs.declared.Page.{Page}
 use Rattle.text.specs.Text.{Writes}
 use Rattle.text.proofs.Adding.{writes_then}
@@ -75,24 +75,6 @@ module _ (r : Rides) (n : ℕ) (some : n ≤ field r.plan.now 77 12) where
             let leg = sound-leg r.tariff.net.now r.tariff.size r.tariff.sound g leg-below l is in
             omega (arith, de, field_below r.plan.now (89 + 21 * k + 9) 12, leg.time_within)
 
-        pub arrives-then : d + l.time.0 ≡ arrival (theory_in r.tariff.net.now) (query_of r.query) (rides_in r.plan.now n)
-        arrives-then =
-            let N = theory_in r.tariff.net.now in
-            let time = (has-leg r.tariff.net.now r.tariff.size r.tariff.sound g leg-below l is).time in
-            let there : d + l.time.0 ≡ arrival N (query_of r.query) (rides_in r.plan.now (suc k)) = omega (arith, de, time, ap N.time ge) in
-            there ∙ ap (λ (m : ℕ). arrival N (query_of r.query) (rides_in r.plan.now m)) (sym e)
-
--- no ride
-pub arrives-first : (N : Network) (q : Query) (plan : List ℕ) (n : ℕ) → n ≡ 0 → q.earliest ≡ arrival N q (rides_in plan n)
-arrives-first N q plan n e = ap (λ (m : ℕ). arrival N q (rides_in plan m)) (sym e)
-
--- the line of a ride, from what was taken
-pub ride-said : (s t : Page) (l d b l' d' b' : ℕ) → l ≡ l' → d ≡ d' → b ≡ b' → Writes s t (leg_text l d (d - b)) → Writes s t (leg_text l' d' (d' - b'))
-ride-said s t l d b l' d' b' e₁ e₂ e₃ h =
-    subst (λ (x : ℕ). Writes s t (leg_text x d' (d' - b'))) e₁
-    (subst (λ (x : ℕ). Writes s t (leg_text l x (x - b'))) e₂
-    (subst (λ (x : ℕ). Writes s t (leg_text l d (d - x))) e₃ h))
-
 -- one line more, and all of them
 module _ (N : Network) (q : Query) (plan : List ℕ) (s t u : Page) (k : ℕ) where
   pub lines_more : Writes s t (rides_text N q (rides_in plan k))
@@ -101,7 +83,3 @@ module _ (N : Network) (q : Query) (plan : List ℕ) (s t u : Page) (k : ℕ) wh
   lines_more a b =
       let e : suc k ≡ k + 1 = omega arith in
       subst (λ (n : ℕ). Writes s u (rides_text N q (rides_in plan n))) e (writes_then a b)
-
-pub lines-all : (N : Network) (q : Query) (plan : List ℕ) (s t : Page) (k n : ℕ) → k ≡ n → Writes s t (rides_text N q (rides_in plan k))
-    → Writes s t (rides_text N q (rides_in plan n))
-lines-all N q plan s t k n e h = subst (λ (m : ℕ). Writes s t (rides_text N q (rides_in plan m))) e h

@@ -1,10 +1,10 @@
 -- From the plan call's promise to the text: what each answer tells of the network, the query and the plan file.
-use Prim.Native.Nat.{ℕ, zero, suc, ◌+◌, ◌-◌, ◌*◌, ◌≤◌, ◌<◌}
+use Prim.Native.Nat.{ℕ, zero, suc, ◌+◌, ◌-◌, ◌*◌, ◌≤◌}
 use native.Mathlib.Omega.{arith}
-use borrow.Author.Tests.{lt-ltb, le-ltb, le-leb, eq-eqb, ne_eqb}
+use borrow.Author.Tests.{le-ltb, le-leb, eq-eqb}
 use mathlib.Core.Path.{◌≡◌, refl, sym, ap, ◌∙◌, subst}
-use mathlib.Core.Logic.{◌≢◌, ◌⊎◌, inl, inr}
-use mathlib.Core.Bool.{Bool, true, false, cond}
+use mathlib.Core.Logic.{◌⊎◌, inl, inr}
+use mathlib.Core.Bool.{Bool, true, false}
 use mathlib.Core.List.{List, ◌∷◌, ◌++◌}
 use lib.Dec.{leb, eqb}
 use lib.ListN.{length, take, drop, length-append, length-drop}
@@ -18,7 +18,6 @@ use Rattle.bits.specs.Field.{field}
 use Rattle.bits.proofs.Bytes.{field-append}
 use Rattle.network.specs.Reading.{pick}
 use Rattle.network.specs.Network.{of_file}
-use Rattle.network.specs.Answers.{network_found}
 use Rattle.plan.specs.Network.{Network, Query, Askable}
 use Rattle.plan.specs.Plan.{Ride, arrival, cost, Runs, Feasible}
 use Rattle.plan.specs.Tie.{Named}
@@ -27,14 +26,14 @@ use Rattle.plan_file.specs.PlanFile.{PlanFile, ride_of, plan_bytes, file_of_plan
 use Rattle.plan_file.proofs.Files.{plan-size, plan-head, plan-rides}
 use Rattle.tabled.specs.Judge.{Judged, refuse, serve, judged}
 use Rattle.tabled.specs.Comes.{Comes}
-use Rattle.tabled.proofs.Judging.{judged-refused, comes-to}
+use Rattle.tabled.proofs.Judging.{comes-to}
 use Rattle.plan_call.specs.Call.{Right, plan, none, Output, Answered, Plans}
 use Rattle.text.specs.declared.Page.{Page}
 use Rattle.text.specs.Text.{Writes}
 use Rattle.chart.specs.Net.{theory_in}
 use Rattle.report.specs.Pages.{Fills}
 use Rattle.report.specs.Rides.{rides_in, Ridden}
-use Rattle.report.specs.Report.{answer_text, cost_text, arrive_text, rides_text, file_text, Shows, shown, nothing, Prints, latest_of, query_in, Whole, Reports}
+use Rattle.report.specs.Report.{answer_text, cost_text, arrive_text, rides_text, file_text, Shows, shown, nothing, Prints, query_in, Whole, Reports}
 use Rattle.report.proofs.Riding.{rides-are}
 
 -- the rides in the front of more bytes
@@ -156,10 +155,6 @@ module _ (s : List ℕ) (q : Query) (table table' out out' : List ℕ) (lent : 1
           let d = data-in (theory_in s) q asked out out' lent answer u.answered in
           absurd (no-refusal (theory_in s) q asked out out' lent why d.0 d.1 _ d.2 (sym e ∙ d.3))
 
-pub net-refused : (s : List ℕ) (q : Query) (n : ℕ) (why : Refusal) → network_found (of_file s) ≡ Err why
-    → Prints (judged (of_file s) q n) q (answer_text (number_of why))
-net-refused s q n why e = subst (λ (x : Judged). Prints x q (answer_text (number_of why))) (sym (judged-refused (of_file s) q n why e)) refl
-
 -- what is asked of a plan file before it is printed, and what is then printed
 module _ (s : List ℕ) (q : Query) (file : List ℕ) (t : Told (theory_in s) q file) where
   told-rides : rides_in file (field file 77 12) ≡ t.rides
@@ -199,18 +194,6 @@ rest-is input = take_all (length input - 5) (drop 5 input) (omega (arith, length
 
 -- the whole input
 module _ (input : List ℕ) (cells : ℕ) where
-  pub report-short : (text : List ℕ) → length input < 5 → text ≡ answer_text 1 → Reports input cells text
-  report-short text h e =
-      record { says = subst (λ (b : Bool). Whole b (eqb (field input 36 4) 0) input cells text) (sym (lt-ltb (length input) 5 h)) e }
-
-  pub report-fill : (text : List ℕ) → 5 ≤ length input → field input 36 4 ≢ 0 → text ≡ answer_text 5 → Reports input cells text
-  report-fill text h n e =
-      record {
-        says =
-            subst (λ (b : Bool). Whole b (eqb (field input 36 4) 0) input cells text) (sym (le-ltb (length input) 5 h))
-            (subst (λ (b : Bool). Whole false b input cells text) (sym (ne_eqb (field input 36 4) 0 n)) e);
-      }
-
   pub report-net : (text net : List ℕ) → net ≡ drop 5 input → 5 ≤ length input → field input 36 4 ≡ 0 → (q : Query) → q.start ≡ field input 0 6 → q.end ≡ field input 6 6
       → q.earliest ≡ field input 12 12 → q.latest ≡ (query_in input).latest
       → Prints (judged (of_file net) q cells) q text → Reports input cells text
@@ -223,18 +206,3 @@ module _ (input : List ℕ) (cells : ℕ) where
             (subst (λ (x : Query). Prints (judged (of_file (drop 5 input)) x cells) x text) same
             (subst (λ (x : List ℕ). Prints (judged (of_file x) q cells) q text) there p)));
       }
-
--- latest
-pub latest-last : (t : ℕ) → t ≡ 4095 → 1439 ≡ latest_of t
-latest-last t e = ap (λ (b : Bool). cond b 1439 t) (sym (eq-eqb t 4095 e))
-
-pub latest-other : (t : ℕ) → t ≢ 4095 → t ≡ latest_of t
-latest-other t n = ap (λ (b : Bool). cond b 1439 t) (sym (ne_eqb t 4095 n))
-
--- the lines of a plan, from what was taken
-pub plan-said : (N : Network) (q : Query) (file : List ℕ) (s t : Page) (c m : ℕ) → c ≡ field file 45 32 → m ≡ arrival N q (rides_in file (field file 77 12))
-    → Writes s t (answer_text 0 ++ (cost_text c ++ (arrive_text m ++ rides_text N q (rides_in file (field file 77 12))))) → Writes s t (file_text N q file)
-plan-said N q file s t c m e₁ e₂ h =
-    let rides = rides_text N q (rides_in file (field file 77 12)) in
-    subst (λ (x : ℕ). Writes s t (answer_text 0 ++ (cost_text x ++ (arrive_text (arrival N q (rides_in file (field file 77 12))) ++ rides)))) e₁
-    (subst (λ (x : ℕ). Writes s t (answer_text 0 ++ (cost_text c ++ (arrive_text x ++ rides)))) e₂ h)

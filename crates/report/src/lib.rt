@@ -27,10 +27,14 @@ fn answer_line(page: &mut Page, number: u32)
 }
 
 // Latest 4,095 stands for 1,439.
-fn latest_of(latest: u32) -> u32
-    ensures { result ≡ latest_of latest }
+fn latest_of(latest: Minute) -> Minute
+    ensures { result.0 ≡ latest_of latest.0 }
 {
-    if latest == 4095 { 1439 } else { latest }
+    if latest == Minute(4095) {
+        Minute(1439)
+    } else {
+        latest
+    }
 }
 
 // A network and a query: the lines of the plan, or why there are none. The room that a plan and its text need is asked for here, in `whole_text` and in
@@ -78,7 +82,7 @@ fn whole_text(
         return Err(Refusal::Tail);
     }
     let query = plan_reader::query_at(input, 0);
-    let latest = Minute(latest_of(query.latest.0));
+    let latest = latest_of(query.latest);
     net_text(&input[5..], Query { latest, ..query }, table, plan, page)
 }
 

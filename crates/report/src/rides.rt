@@ -23,7 +23,7 @@ pub struct Rides<'a> {
 }
 
 impl<'a> Rides<'a> {
-    // How many rides there are.
+    // How many rides there are. Count and cost are read at their bits, as in `plan_reader`: one field each, and a function for it would be no shorter.
     fn count(&self) -> usize
         ensures { result ≡ field self.now.plan.now 77 12 }
     {
@@ -76,7 +76,7 @@ impl<'a> Rides<'a> {
     {
         let cost = reader::field(self.plan, 45, 32);
         let arrival = self.arrival_after(self.count());
-        crate::answer_line(page, 0);
+        crate::answer_line(page, 0); // answered
         page.line(b"cost ", cost);
         page.line(b"arrive ", arrival.0);
         self.lines(page);

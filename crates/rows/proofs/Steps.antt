@@ -7,7 +7,7 @@ use mathlib.Core.Logic.{◌≢◌}
 use mathlib.Core.List.{List}
 use lib.ListN.{length, set, length-set}
 use lib.Seq.{get_or-set_same, get_or-set_other}
-use Rattle.rows.specs.Row.{at, Since, Settle, Lower}
+use Rattle.rows.specs.Row.{at, Since, Settle}
 
 -- ---- settling
 
@@ -58,22 +58,3 @@ module _ (old new copy : List ℕ) (from j best v : ℕ) (s : Settle old new cop
   settle-best =
       let back : j + 1 - 1 ≡ j = omega arith in
       rw (back, settle-here)
-
--- ---- lowering
-
-module _ (old new row : List ℕ) (from j time add : ℕ) (l : Lower old new row from j time add) (starts : from ≤ j) where
-  pub lower-more : (v : ℕ) → j + time < length new → v ≡ min (at new (j + time)) (at row j + add) → Lower old (set new (j + time) v) row from (j + 1) time add
-  lower-more v there is = record {
-    long = length-set new (j + time) v ∙ l.long;
-    before = λ i k. else i (omega arith) ∙ l.before i k;
-    after = λ i k. else i (omega arith) ∙ l.after i (omega arith);
-    ridden = λ i f u. each i f u (ℕ_discrete i j);
-  }
-    where
-      else : (i : ℕ) → i ≢ j + time → at (set new (j + time) v) i ≡ at new i
-      else i n = get_or-set_other new (j + time) i v 0 n
-
-      each : (i : ℕ) → from ≤ i → i < j + 1 → Dec (i ≡ j) → at (set new (j + time) v) (i + time) ≡ min (at old (i + time)) (at row i + add)
-      each i f u (yes e) =
-          rw e (omega (arith, get_or-set_same new (j + time) v 0 there, is, l.after (j + time) (omega arith)))
-      each i f u (no n) = else (i + time) (omega arith) ∙ l.ridden i f (omega arith)

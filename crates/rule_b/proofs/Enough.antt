@@ -3,8 +3,7 @@
 use Prim.Native.Nat.{ℕ, ◌+◌, ◌≤◌, ◌<◌}
 use native.Mathlib.Omega.{arith}
 use native.Mathlib.Decide.{dec_lt}
-use mathlib.Core.Path.{◌≡◌, refl, ◌∙◌, subst}
-use mathlib.Core.Bool.{Bool, true, false}
+use mathlib.Core.Path.{◌≡◌, ◌∙◌, subst}
 use mathlib.Core.Option.{Option, none, some}
 use mathlib.Core.List.{List}
 use Rattle.leg.specs.declared.Leg.{Leg}
@@ -13,9 +12,7 @@ use Rattle.plan.specs.Network.{Minute, Cents, Query}
 use Rattle.plan.specs.Sheet.{Step, value, Steps, AtMost}
 use Rattle.plan.proofs.Values.{at-most-value, at-most-more}
 use Rattle.plan.proofs.Sheets.{steps-fall}
-use borrow.Author.Tests.{leb-true, leb-false}
-use lib.Dec.{leb}
-use Rattle.rule_b.specs.Rule.{Is, RuleAt}
+use Rattle.rule_b.specs.Rule.{RuleAt}
 use Rattle.rule_b.specs.Cursor.{Covers}
 
 -- the rule holds at each departure before a minute
@@ -55,11 +52,3 @@ module _ (q : Query) (leg : Leg) (from to : List Step) (falls : Steps q to) (d :
       at : Dec (u < d) → RuleAt leg from to u
       at (yes k) = before u k arrives
       at (no n) = from-here u (omega arith) l
-
--- the test itself
-pub covers-test : (x y toll there most : Cents) → there ≡ y → most ≡ x + toll → Is (leb there most) (Covers (some x) (some y) toll)
-covers-test x y toll there most e m = at (leb there most) refl
-  where
-    at : (b : Bool) → leb there most ≡ b → Is b (y ≤ x + toll)
-    at true t = omega (arith, leb-true there most t)
-    at false t = λ h. let z = leb-false there most t in omega arith

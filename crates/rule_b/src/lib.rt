@@ -18,7 +18,7 @@ use network::LegInFile;
 use sheet_file::SheetPlace;
 use tolls::Tolls;
 
-// The minute of the first of `left` steps at a bit.
+// The minute of the first of `left` steps at a bit; where there is none, one that never comes: see `leg::Minute`.
 fn first(sheet: &[u8], at: usize, left: usize) -> Minute
     requires { at + 44 * left ≤ 8 * length sheet.now }
     ensures { result.0 ≡ first_of (steps_at sheet.now at left) }
@@ -64,7 +64,7 @@ impl<'a> Cursor<'a> {
         }
     }
 
-    // Past every step up to a minute. That the minute comes is asked, here and below: see `leg::Minute`.
+    // Past every step up to a minute: `Tolls::begun` has this loop once more, and says why. That the minute comes is asked, here and below: see `leg::Minute`.
     fn forward(self, minute: Minute) -> Cursor<'a>
         requires { minute.0 < 4096 }
         ensures { Moved minute.0 self.entry result }
@@ -86,7 +86,7 @@ pub fn value_at(place: SheetPlace<'_>, minute: Minute) -> Option<Cents>
     Cursor::at_start(place).forward(minute).price
 }
 
-// Where band k of a leg starts, if it has so many.
+// Where band k of a leg starts, if it has so many; else at a minute that never comes. `table`'s `band_start` is its twin, and says why.
 fn start_of(leg: LegInFile<'_>, count: usize, k: usize) -> Minute
     requires { count ≡ (leg_of leg).count }
     ensures { result.0 ≡ start_or (leg_of leg.entry) k }

@@ -26,8 +26,10 @@ use Rattle.rule_b.specs.Cursor.{Sorted}
 use Rattle.rule_b.proofs.Walks.{first-none, first_some, none_before, steps-sorted}
 use Rattle.network.proofs.InFile.{band-there}
 use Rattle.card.specs.declared.Card.{Card}
+use Rattle.card.specs.declared.Slot.{Slot}
 use Rattle.card.specs.Card.{slot, never, Rising, Carded, Begun}
-use Rattle.card.specs.One.{Ready}
+use Rattle.card.specs.One.{Ready, begins}
+use Rattle.card.proofs.Filling.{slot-first}
 use Rattle.rule_cards.specs.Cards.{HoldsSteps, HoldsTolls, StepAt, toll_shown}
 
 -- ---- any card
@@ -36,24 +38,24 @@ use Rattle.rule_cards.specs.Cards.{HoldsSteps, HoldsTolls, StepAt, toll_shown}
 abbrev pub Ordered : List ℕ → ℕ → ℕ → ℕ → Type 0
 Ordered s bit width count = (k : ℕ) → k + 1 < count → field s (bit + k * (12 + width)) 12 < field s (bit + (k + 1) * (12 + width)) 12
 
-module _ (s : List ℕ) (bit width count size : ℕ) (minutes prices : List ℕ) (at : ℕ) (card : Carded s bit width count size minutes prices at) where
+module _ (s : List ℕ) (bit width count size : ℕ) (slots : List Slot) (at : ℕ) (card : Carded s bit width count size slots at) where
   -- a slot is never later than never
-  pub slot-within : (k : ℕ) → k < size → slot minutes at k ≤ never
+  pub slot-within : (k : ℕ) → k < size → (slot slots at k).minute.0 ≤ never
   slot-within k h = close (dec_lt k count)
     where
-      close : Dec (k < count) → slot minutes at k ≤ never
+      close : Dec (k < count) → (slot slots at k).minute.0 ≤ never
       close (yes l) = omega (arith, card.written.minute_is k l, field_below s (bit + k * (12 + width)) 12)
       close (no n) = omega (arith, card.rest k (omega arith) h)
 
-  pub slots-rise : Ordered s bit width count → Rising minutes at size
+  pub slots-rise : Ordered s bit width count → Rising slots at size
   slots-rise order k h = close (dec_lt (k + 1) count)
     where
-      close : Dec (k + 1 < count) → slot minutes at k ≤ slot minutes at (k + 1)
+      close : Dec (k + 1 < count) → (slot slots at k).minute.0 ≤ (slot slots at (k + 1)).minute.0
       close (yes l) = omega (arith, card.written.minute_is k (omega arith), card.written.minute_is (k + 1) l, order k l)
       close (no n) = omega (arith, slot-within k (omega arith), card.rest (k + 1) (omega arith) h)
 
   -- a slot that has begun is one of those that were filled
-  pub begun-few : (t n : ℕ) → t < never → Begun minutes at size t n → n ≤ count
+  pub begun-few : (t n : ℕ) → t < never → Begun slots at size t n → n ≤ count
   begun-few t n h b = close (dec_lt count n)
     where
       close : Dec (count < n) → n ≤ count
@@ -61,20 +63,30 @@ module _ (s : List ℕ) (bit width count size : ℕ) (minutes prices : List ℕ)
       close (yes l) = absurd (omega (arith, b.before count l, card.rest count (omega arith) (omega (arith, b.few))))
 
 -- a card that was filled can be looked at
-pub ready : (s : List ℕ) (bit width count : ℕ) (c : Card) → Carded s bit width count (length c.minutes.now) c.minutes.now c.prices.now 0
-    → length c.minutes.now ≤ 16 → length c.minutes.now ≤ length c.prices.now → Ordered s bit width count → Ready c
-ready s bit width count c card small price_room order =
-    let size = length c.minutes.now in
+pub ready : (s : List ℕ) (bit width count : ℕ) (c : Card) → Carded s bit width count (length c.slots.now) c.slots.now 0
+    → length c.slots.now ≤ 16 → Ordered s bit width count → Ready c
+ready s bit width count c card small order =
+    let size = length c.slots.now in
     record {
-      card = record {
-        near = omega arith;
-        small = small;
-        room = omega arith;
-        rises = slots-rise s bit width count size c.minutes.now c.prices.now 0 card order;
-        within = slot-within s bit width count size c.minutes.now c.prices.now 0 card;
-      };
-      price_room = price_room;
+      near = omega arith;
+      small = small;
+      room = omega arith;
+      rises = slots-rise s bit width count size c.slots.now 0 card order;
+      within = slot-within s bit width count size c.slots.now 0 card;
     }
+
+-- and each slot that comes begins before the next one
+pub slots-apart : (s : List ℕ) (bit width count : ℕ) (c : Card) → Carded s bit width count (length c.slots.now) c.slots.now 0 → Ordered s bit width count
+    → (k : ℕ) → k + 1 < length c.slots.now → begins c k < never → begins c k < begins c (k + 1)
+slots-apart s bit width count c card order k h comes = close (dec_lt k count) (dec_lt (k + 1) count)
+  where
+    first : (n : ℕ) → (slot c.slots.now 0 n).minute.0 ≡ begins c n
+    first n = ap (λ (x : Slot). x.minute.0) (slot-first c.slots.now n)
+
+    close : Dec (k < count) → Dec (k + 1 < count) → begins c k < begins c (k + 1)
+    close (no n) m = absurd (omega (arith, comes, first k, card.rest k (omega arith) (omega arith)))
+    close (yes l) (yes m) = omega (arith, first k, first (k + 1), card.written.minute_is k l, card.written.minute_is (k + 1) m, order k m)
+    close (yes l) (no n) = omega (arith, comes, first (k + 1), card.rest (k + 1) (omega arith) h)
 
 -- ---- a place's steps
 
@@ -140,7 +152,7 @@ ordered-up s bit width count order i (suc d) h =
     rw e (omega (arith, ordered-up s bit width count order i d (omega arith), order (i + d) (omega arith)))
 
 module _ (q : Query) (s : List ℕ) (place : ℕ) (steps : Steps q (place_at s place)) (c : Card)
-    (card : Carded s (place + 12) 32 (count_at s place) (length c.minutes.now) c.minutes.now c.prices.now 0) where
+    (card : Carded s (place + 12) 32 (count_at s place) (length c.slots.now) c.slots.now 0) where
   sorted : Sorted q (place_at s place)
   sorted = steps-sorted q (place_at s place) steps
 
@@ -149,18 +161,18 @@ module _ (q : Query) (s : List ℕ) (place : ℕ) (steps : Steps q (place_at s p
 
   -- THE CARD SHOWS THE PLACE'S VALUE
   pub holds-steps : HoldsSteps c (place_at s place)
-  holds-steps t r low shows = close shows.slots refl
+  holds-steps t r low shows = close shows.count refl
     where
-      n-few : shows.slots ≤ count_at s place
-      n-few = begun-few s (place + 12) 32 (count_at s place) (length c.minutes.now) c.minutes.now c.prices.now 0 card t shows.slots low shows.begun
+      n-few : shows.count ≤ count_at s place
+      n-few = begun-few s (place + 12) 32 (count_at s place) (length c.slots.now) c.slots.now 0 card t shows.count low shows.begun
 
-      value-is : value (place_at s place) t ≡ last_of s (place + 12) shows.slots
+      value-is : value (place_at s place) t ≡ last_of s (place + 12) shows.count
       value-is =
-          value-begun q s t shows.slots (place + 12) (count_at s place) low n-few sorted
+          value-begun q s t shows.count (place + 12) (count_at s place) low n-few sorted
           (λ k h. omega (arith, shows.begun.before k h, card.written.minute_is k (omega (arith, n-few))))
-          (λ h. omega (arith, shows.begun.after shows.slots (omega arith) (omega (arith, card.few)), card.written.minute_is shows.slots h))
+          (λ h. omega (arith, shows.begun.after shows.count (omega arith) (omega (arith, card.few)), card.written.minute_is shows.count h))
 
-      close : (n : ℕ) → shows.slots ≡ n → value (place_at s place) t ≡ price_of r
+      close : (n : ℕ) → shows.count ≡ n → value (place_at s place) t ≡ price_of r
       close zero e =
           value-is ∙ ap (last_of s (place + 12)) e ∙ ap (λ x. price_of x) (sym (shows.nothing e))
       close (suc m) e =
@@ -178,8 +190,8 @@ step-number s bit (suc count) m (inr h) =
     let (k, low, e) = step-number s (bit + 44) count m h in
     (suc k, omega arith, let same : bit + 44 + k * 44 ≡ bit + suc k * 44 = omega arith in e ∙ ap (λ (p : ℕ). field s p 12) same)
 
-pub step-slot : (s : List ℕ) (place : ℕ) (c : Card) → Carded s (place + 12) 32 (count_at s place) (length c.minutes.now) c.minutes.now c.prices.now 0
-    → (m : Minute) → StepAt (place_at s place) m → (k : ℕ) × (k < count_at s place) × (m ≡ slot c.minutes.now 0 k)
+pub step-slot : (s : List ℕ) (place : ℕ) (c : Card) → Carded s (place + 12) 32 (count_at s place) (length c.slots.now) c.slots.now 0
+    → (m : Minute) → StepAt (place_at s place) m → (k : ℕ) × (k < count_at s place) × (m ≡ (slot c.slots.now 0 k).minute.0)
 step-slot s place c card m h =
     let (k, low, e) = step-number s (place + 12) (count_at s place) m h in
     (k, low, e ∙ sym (card.written.minute_is k low))
@@ -195,14 +207,14 @@ tolls-later bands t n (suc m) late =
     ∙ tolls-later bands t n m (λ k l h. late k l (omega arith))
 
 module _ (s : List ℕ) (at : ℕ) (order : InOrder (leg_at s at)) (c : Card)
-    (card : Carded s (at + 28) 16 (leg_at s at).count (length c.minutes.now) c.minutes.now c.prices.now 0) where
-  start_is : (k : ℕ) → k < (leg_at s at).count → (get_or (leg_at s at).bands k no_band).start.0 ≡ slot c.minutes.now 0 k
+    (card : Carded s (at + 28) 16 (leg_at s at).count (length c.slots.now) c.slots.now 0) where
+  start_is : (k : ℕ) → k < (leg_at s at).count → (get_or (leg_at s at).bands k no_band).start.0 ≡ (slot c.slots.now 0 k).minute.0
   start_is k h =
       let e : at + 28 + 28 * k ≡ at + 28 + k * (12 + 16) = omega arith in
       ap (λ (b : Band). b.start.0) (band-there s (at + 28) (leg_at s at).count k h)
       ∙ ap (λ (p : ℕ). field s p 12) e ∙ sym (card.written.minute_is k h)
 
-  toll-is : (k : ℕ) → k < (leg_at s at).count → (get_or (leg_at s at).bands k no_band).toll.0 ≡ slot c.prices.now 0 k
+  toll-is : (k : ℕ) → k < (leg_at s at).count → (get_or (leg_at s at).bands k no_band).toll.0 ≡ (slot c.slots.now 0 k).price.0
   toll-is k h =
       let e : at + 28 + 28 * k + 12 ≡ at + 28 + k * (12 + 16) + 12 = omega arith in
       ap (λ (b : Band). b.toll.0) (band-there s (at + 28) (leg_at s at).count k h)
@@ -213,8 +225,8 @@ module _ (s : List ℕ) (at : ℕ) (order : InOrder (leg_at s at)) (c : Card)
       omega (arith, order.rises k h, start_is k (omega arith), start_is (k + 1) h, card.written.minute_is k (omega arith), card.written.minute_is (k + 1) h)
 
   -- the toll where just the first n bands have begun
-  toll-begun-at : (t n : ℕ) → n + 1 ≤ (leg_at s at).count → slot c.minutes.now 0 n ≤ t → ((k : ℕ) → n + 1 ≤ k → k < (leg_at s at).count → t < slot c.minutes.now 0 k)
-      → toll_at (leg_at s at) t ≡ slot c.prices.now 0 n
+  toll-begun-at : (t n : ℕ) → n + 1 ≤ (leg_at s at).count → (slot c.slots.now 0 n).minute.0 ≤ t → ((k : ℕ) → n + 1 ≤ k → k < (leg_at s at).count → t < (slot c.slots.now 0 k).minute.0)
+      → toll_at (leg_at s at) t ≡ (slot c.slots.now 0 n).price.0
   toll-begun-at t n few due late =
       let e : (leg_at s at).count ≡ n + 1 + ((leg_at s at).count - (n + 1)) = omega arith in
       ap (λ (k : ℕ). toll_of_first k (leg_at s at).bands t) e
@@ -225,12 +237,12 @@ module _ (s : List ℕ) (at : ℕ) (order : InOrder (leg_at s at)) (c : Card)
   -- THE CARD SHOWS THE LEG'S TOLL
   pub holds-tolls : HoldsTolls c (leg_at s at)
   unfolding toll_of_first
-  holds-tolls t r low shows = close shows.slots refl
+  holds-tolls t r low shows = close shows.count refl
     where
-      n-few : shows.slots ≤ (leg_at s at).count
-      n-few = begun-few s (at + 28) 16 (leg_at s at).count (length c.minutes.now) c.minutes.now c.prices.now 0 card t shows.slots low shows.begun
+      n-few : shows.count ≤ (leg_at s at).count
+      n-few = begun-few s (at + 28) 16 (leg_at s at).count (length c.slots.now) c.slots.now 0 card t shows.count low shows.begun
 
-      close : (n : ℕ) → shows.slots ≡ n → toll_at (leg_at s at) t ≡ toll_shown r
+      close : (n : ℕ) → shows.count ≡ n → toll_at (leg_at s at) t ≡ toll_shown r
       close zero e =
           let e' : (leg_at s at).count ≡ 0 + (leg_at s at).count = omega arith in
           ap (λ (k : ℕ). toll_of_first k (leg_at s at).bands t) e'
@@ -243,5 +255,5 @@ module _ (s : List ℕ) (at : ℕ) (order : InOrder (leg_at s at)) (c : Card)
           ∙ ap (λ x. toll_shown x) (sym (shows.last m (e ∙ one)))
 
   -- where band k starts
-  pub band-slot : (k : ℕ) → k < (leg_at s at).count → (get_or (leg_at s at).bands k no_band).start.0 ≡ slot c.minutes.now 0 k
+  pub band-slot : (k : ℕ) → k < (leg_at s at).count → (get_or (leg_at s at).bands k no_band).start.0 ≡ (slot c.slots.now 0 k).minute.0
   band-slot k h = start_is k h

@@ -2,4 +2,5 @@ pub mod Departures
 pub mod Enough
 pub mod Held
 pub mod Legs
+pub mod Own
 pub mod Laying

@@ -13,10 +13,10 @@ use Rattle.plan_file.proofs.Puts.{puts_one, puts-front}
 use Rattle.rows.specs.Whole.{row_of}
 use Rattle.rows.proofs.Wholes.{row-length}
 use Rattle.walk.proofs.Nets.{row_room}
-use Rattle.sheet_call.specs.Rows.{no_cost, step_to, steps_from, steps_of, places_from, sheet_in}
+use Rattle.sheet_call.specs.Rows.{step_to, steps_from, steps_of, places_from, sheet_in}
 use Rattle.sheet_file.specs.Fields.{step_fields, steps_fields, place_fields, places_fields}
 use Rattle.sheet_call.specs.Parts.{Counted, RoomAt, Table, Weighed}
-use Rattle.sheet_call.proofs.Stepping.{from_start, from_end, from-lower, from-same, fields-none, fields-more, steps-bits, place-bits, places-none, places-more, places-bits, Left, left-all, left-done, left-more}
+use Rattle.sheet_call.proofs.Stepping.{from_end, from-lower, from-same, fields-none, fields-more, steps-bits, place-bits, places-none, places-more, places-bits, Left, left-done, left-more}
 use Rattle.sheet_call.proofs.Rows.{places-end, places-next}
 
 -- ---- the steps of a row are counted
@@ -25,11 +25,6 @@ pub record Counting (row : List ℕ) (was : Cents) (count k : ℕ) : Type 0 wher
   pub within : k ≤ length row
   pub few : count ≤ k
   pub rest : (t : Minute) → count + length (steps_from (t + k) was (drop k row)) ≡ length (steps_of t row)
-
-pub counting-none : (row : List ℕ) (k : ℕ) → k ≡ 0 → Counting row no_cost 0 k
-counting-none row k is =
-    subst (Counting row no_cost 0) (sym is)
-    (record { within = omega arith; few = omega arith; rest = λ t. omega (arith, ap (λ (ss : List Step). length ss) (from_start row t no_cost 0)) })
 
 module _ (row : List ℕ) (was : Cents) (count k : ℕ) (c : Counting row was count k) where
   pub counting-done : length row ≤ k → Counted row count
@@ -67,20 +62,6 @@ pub record Putting (row : List ℕ) (t : Minute) (first : List ℕ) (at : ℕ) (
   pub byte : (i : ℕ) → get_or out i 0 < 256
 
 module _ (row : List ℕ) (t : Minute) (first : List ℕ) (at : ℕ) where
-  pub putting-none : ((i : ℕ) → get_or first i 0 < 256) → (k : ℕ) → k ≡ 0 → Putting row t first at first no_cost 0 k
-  putting-none byte k is =
-      let here : at ≡ at + 44 * 0 = omega arith in
-      subst (Putting row t first at first no_cost 0) (sym is)
-      (record {
-        counting = counting-none row 0 refl;
-        left =
-            subst (λ (ss : List Step). Left first first at (at + 44 * 0) (steps_fields ss) (steps_fields (steps_of t row))) (sym (from_start row t no_cost 0))
-            (subst (λ (n : ℕ). Left first first at n (steps_fields (steps_of t row)) (steps_fields (steps_of t row))) here
-            (left-all first at (steps_fields (steps_of t row))));
-        long = refl;
-        byte = byte;
-      })
-
   module _ (out : List ℕ) (was : Cents) (count k : ℕ) (c : Putting row t first at out was count k) where
     pub putting-done : length row ≤ k → Puts first out at (steps_fields (steps_of t row))
     putting-done h =

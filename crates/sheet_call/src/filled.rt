@@ -17,7 +17,7 @@ pub struct Filled<'a> {
 }
 
 impl<'a> Filled<'a> {
-    // The row of a place.
+    // The row of a place. By its number and not by `chunks_exact`: the edit `same_row_for_all` is about which row a place has.
     pub fn row(&self, p: u32) -> &'a [u32]
         requires { p < self.now.places }
         ensures { result.now ≡ row_of self.now.cells.now self.now.w p }

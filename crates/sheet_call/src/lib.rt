@@ -22,7 +22,7 @@ use plan_file::Query;
 use walk::Table;
 
 // What a cell without a plan shows for a cost: above every cost, so that the least so far begins with it, and needs no Option.
-const NO_COST: u32 = 67108863;
+const NO_COST: Cents = Cents(67108863);
 
 // How many steps a row has.
 fn count_steps(row: &[u32]) -> u32
@@ -31,8 +31,8 @@ fn count_steps(row: &[u32]) -> u32
 {
     let mut was = NO_COST;
     let mut count = 0;
-    for cell in row {
-        let cost = *cell / 64;
+    for &cell in row {
+        let cost = rows::cost_of(cell);
         if cost < was {
             was = cost;
             count += 1;
@@ -52,7 +52,8 @@ fn weigh(table: &Filled) -> u32
     bits.div_ceil(8)
 }
 
-// One step, from bit `at` on (that its minute comes: see `leg::Minute`). No writer that holds its bit: a place's number of steps is put in front of them, once they are there.
+// One step, from bit `at` on (that its minute comes: see `leg::Minute`). No writer that holds its bit: it would lend the bytes, and each contract would say that it lends the
+// same ones afterwards; and a place's number of steps is put in front of them, once they are there.
 fn put_step(out: &mut [u8], at: usize, minute: Minute, price: Cents)
     requires { (minute.0 < 4096) × (at + 44 ≤ 8 * length out.old) × (at ≤ 20000000) }
     ensures { Puts out.old out.new at (step_fields (step_to minute.0 price.0)) }
@@ -66,16 +67,16 @@ fn put_steps(row: &[u32], earliest: Minute, out: &mut [u8], at: usize) -> u32
     requires { (earliest.0 + length row.now ≤ 2880) × RoomAt out.old at (steps_fields (steps_of earliest.0 row.now)) }
     ensures { Counted row.now result × Puts out.old out.new at (steps_fields (steps_of earliest.0 row.now)) }
 {
-    let mut was = NO_COST;
+    let mut was = NO_COST; // nothing is put yet
     let mut count = 0;
-    for column in 0..row.len() {
-        let cost = row[column] / 64;
+    for (column, cell) in row.iter().enumerate() {
+        let cost = rows::cost_of(*cell);
         if cost < was {
             put_step(
                 out,
                 at + 44 * count as usize,
                 Minute(earliest.0 + column as u32),
-                Cents(cost),
+                cost,
             );
             was = cost;
             count += 1;

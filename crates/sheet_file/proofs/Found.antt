@@ -189,10 +189,6 @@ judged-nothing s n w (refused why) h = tt
 judged-nothing s n w (found a at) h = absurd h
 
 module _ (s : List ℕ) (w : Window) (n : ℕ) where
-  pub judged-top : Nothing (top n (file_of s) 0) → Judged s n w (sheet_of n (of_window w) s) None
-  judged-top h =
-      judged-nothing s n w (sheet_of n (of_window w) s) (nothing-next (top n (file_of s) 0) (λ _ at. body n (of_window w) (file_of s) at) h)
-
   module _ (t : top n (file_of s) 0 ≡ found tt 15) where
     pub judged-places : Nothing (places n (of_window w) (file_of s) 15) → Judged s n w (sheet_of n (of_window w) s) None
     judged-places h =

@@ -5,18 +5,13 @@ use native.Mathlib.Numerals.{add-one}
 use mathlib.Core.Path.{◌≡◌, refl, sym, ◌∙◌, ap}
 use mathlib.Core.Bool.{Bool, true, false}
 use mathlib.Core.List.{List, [], ◌∷◌, ◌++◌, append_assoc}
-use borrow.Author.Tests.{le-leb, leb-true}
-use lib.Dec.{leb, eqb}
-use lib.ListN.{length}
 use Rattle.answer.specs.declared.Refusal.{Refusal}
-use Rattle.answer.specs.declared.Refusal.TheVariants.{SheetFile}
-use Rattle.bits.specs.Field.{field}
 use Rattle.bits.proofs.Fields.{field_below}
 use Rattle.source.specs.Source.{Source, file_of}
 use Rattle.network.specs.Reading.{Found, refused, found, next, pick}
 use Rattle.plan.specs.Network.{Minute, Cents}
 use Rattle.plan.specs.Sheet.{Step}
-use Rattle.sheet_file.specs.SheetFile.{step, steps, top}
+use Rattle.sheet_file.specs.SheetFile.{step, steps}
 use Rattle.sheet_file.specs.InPlace.{step_at, steps_at, Nothing, Tested}
 
 -- a reading that finds nothing on the way finds nothing
@@ -33,10 +28,6 @@ nothing-after false why a n k h = tt
 pub tested-true : {A : Type 0} (b : Bool) (x : Found A) (a : A) (at : ℕ) → b ≡ true → Tested b x a at → x ≡ found a at
 tested-true true x a at e t = t
 tested-true false x a at e t = cc
-
-pub tested-false : {A : Type 0} (b : Bool) (x : Found A) (a : A) (at : ℕ) → b ≡ false → Tested b x a at → Nothing x
-tested-false true x a at e t = let z : ◌≡◌ {A = ℕ} 0 1 = cc in absurd (omega arith)
-tested-false false x a at e t = t
 
 -- what was found, after some that were found before
 abbrev pub prepend : {A : Type 0} → List A → Found (List A) → Found (List A)
@@ -124,14 +115,3 @@ loop-start s at n low latest limit =
 -- the values that a sound step came with
 pub minute-small : (s : List ℕ) (at minute : ℕ) (price : ℕ) → ◌≡◌ {A = Step} (record { minute = minute; price = price }) (step_at s at) → minute < 4096
 minute-small s at minute price e = omega (arith, ap (λ (x : Step). x.minute) e, field_below s at 12)
-
--- ---- the head
-module _ (s : List ℕ) (n : ℕ) where
-  pub top-places : (b : Bool) → leb (0 + 15) (8 * length s) ≡ true → field s 0 8 ≡ 1 → b ≡ eqb (field s 8 7) n → Tested b (top n (file_of s) 0) tt 15
-  top-places b e h t =
-      let first : leb 8 (8 * length s) ≡ true = le-leb 8 (8 * length s) (omega (arith, leb-true 15 (8 * length s) e)) in
-      simp (first, h, e, ← t) (at b)
-    where
-      at : (b : Bool) → Tested b (pick b (found (tt {0}) 15) (refused SheetFile)) tt 15
-      at true = refl
-      at false = tt

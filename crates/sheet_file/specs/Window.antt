@@ -5,6 +5,7 @@ use Rattle.plan.specs.Network.{Minute, Cents, Query}
 use Rattle.network.specs.Reading.{found}
 use Rattle.sheet_file.specs.declared.Step.{Step}
 use Rattle.leg.specs.declared.Window.{Window}
+use Rattle.leg.specs.declared.Cents.{Cents as LegCents}
 use Rattle.sheet_file.specs.SheetFile.{step, steps, one_place, any_cost}
 use Rattle.sheet_file.specs.InPlace.{step_at, steps_at, place_at, count_at, Nothing}
 
@@ -15,6 +16,11 @@ window earliest latest = record { start = 0; end = 0; earliest = earliest; lates
 -- the same of a window
 abbrev pub of_window : Window → Query
 of_window w = window w.earliest.0 w.latest.0
+
+-- what the next step's cost is below: the last step's, or any cost where there is none
+abbrev pub below : Option LegCents → Cents
+below (Some last) = last.0
+below None = any_cost
 
 -- one step was judged: a sound one is handed on
 abbrev pub StepIs : List ℕ → ℕ → Minute → Minute → Cents → Option Step → Type 0

@@ -6,7 +6,7 @@ ghost use Rattle.source.specs.Source.{file_of};
 ghost use Rattle.sheet_file.specs.SheetFile.{top, sheet_of};
 ghost use Rattle.sheet_file.specs.InPlace.{Tested};
 ghost use Rattle.sheet_file.specs.Judged.{Judged};
-ghost use Rattle.sheet_file.specs.Window.{StepIs, StepsAre, PlaceIs, of_window};
+ghost use Rattle.sheet_file.specs.Window.{below, StepIs, StepsAre, PlaceIs, of_window};
 
 mod sheet_place;
 mod sound_sheet;
@@ -25,43 +25,48 @@ pub struct Step {
     pub price: Cents,
 }
 
-// One step, if it is sound: its minute from `low` to `latest`, its cost below `limit`.
-fn step_from(sheet: &[u8], at: usize, low: Minute, latest: Minute, limit: u64) -> Option<Step>
+// One step, if it is sound: its minute from `low` to `latest`, its cost below that of the last step, if there is one. (Why a bit has a bound, here and below: see `source`.)
+fn step_from(
+    sheet: &[u8],
+    at: usize,
+    low: Minute,
+    latest: Minute,
+    last: Option<Cents>,
+) -> Option<Step>
     requires { at ≤ 9000000 }
-    ensures { StepIs sheet.now at low.0 latest.0 limit result }
+    ensures { StepIs sheet.now at low.0 latest.0 (below last) result }
 {
     if !reader::there(sheet, at, 44) {
         return None;
     }
     let (minute, price) = reader::pair(sheet, at, 12, 32);
     let minute = Minute(minute);
+    let price = Cents(price);
     if minute < low {
         return None;
     }
     if latest < minute {
         return None;
     }
-    if limit <= u64::from(price) {
+    if last.is_some_and(|last| last <= price) {
         return None;
     }
-    Some(Step {
-        minute,
-        price: Cents(price),
-    })
+    Some(Step { minute, price })
 }
 
-// The bit after the steps of a place, which begin at bit `at`, if they are sound.
+// The bit after the steps of a place, which begin at bit `at`, if they are sound. A sheet, a bit and a window are three, here and in `place_from`: a `SheetPlace` keeps
+// that its steps are sound, which is judged here.
 fn steps_from(sheet: &[u8], at: usize, count: usize, window: Window) -> Option<usize>
     requires { (at ≤ 8500000) × (count ≤ 2880) }
     ensures { StepsAre sheet.now at count window.earliest.0 window.latest.0 result }
 {
     let mut low = window.earliest;
-    let mut limit = 0x1_0000_0000;
+    let mut last = None;
     for k in 0..count {
-        let step = step_from(sheet, at + 44 * k, low, window.latest, limit)?;
+        let step = step_from(sheet, at + 44 * k, low, window.latest, last)?;
         let after = step.minute.0 + 1;
         low = Minute(after);
-        limit = u64::from(step.price.0);
+        last = Some(step.price);
     }
     Some(at + 44 * count)
 }
@@ -91,7 +96,7 @@ fn top_sound(sheet: &[u8], places: u32) -> bool
     reader::field(sheet, 0, 8) == 1 && reader::field(sheet, 8, 7) == places
 }
 
-// A whole sheet file, if it is sound.
+// A whole sheet file, if it is sound. By index: the definition speaks of the whole index, and of a part lent to `iter_mut` each fact would have to be led back to it.
 pub fn sheet_from<'a>(sheet: &'a [u8], places: u32, window: Window) -> Option<SoundSheet<'a>>
     requires { places ≤ 64 }
     ensures { Judged sheet.now places window (sheet_of places (of_window window) sheet.now) result }

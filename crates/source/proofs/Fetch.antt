@@ -6,8 +6,7 @@ use native.Mathlib.Nat.{add-zero, add_assoc}
 use lib.ListN.{length, get_or}
 use Rattle.bits.specs.Field.{field}
 use Rattle.bits.proofs.Fields.{part-first, part-last, part-middle}
-use Rattle.source.specs.declared.Fields.{Fields}
-use Rattle.source.specs.Source.{file_of, list_of, top_widths, head_widths, band_widths, fields_at, Parts, Whole, Fetched, Listed}
+use Rattle.source.specs.Source.{file_of, top_widths, head_widths, band_widths, fields_at, Parts, Whole, Fetched}
 
 module _ (s : List ℕ) (x have : ℕ) where
   pub file-top : Whole (8 * length s) 0 8 15 25 25 have → x ≡ field s 0 25
@@ -35,20 +34,3 @@ module _ (s : List ℕ) (at have : ℕ) (values : List ℕ) where
   pub file-band : Whole (8 * length s) at 12 28 28 28 have → values ≡ fields_at s at band_widths
       → Fetched (file_of s) at band_widths (get_or values 0 0 ∷ get_or values 1 0 ∷ []) 0 have (at + 28)
   file-band w e = rw (e, add_assoc at 12 16) (w.one, refl, (w.two, refl, refl))
-
-module _ (l : List ℕ) (at : ℕ) (r : Fields) where
-  pub list-top : Listed l at 3 r → Fetched (list_of l) at top_widths (r.a ∷ r.b ∷ r.c ∷ []) 0 r.have r.after
-  list-top h =
-      rw (add_assoc at 1 1, add_assoc at 2 1)
-      (h.one.0, h.one.1, (h.two.0, h.two.1, (h.three.0, h.three.1, sym h.place)))
-
-  pub list-head : Listed l at 4 r → Fetched (list_of l) at head_widths (r.a ∷ r.b ∷ r.c ∷ r.d ∷ []) 0 r.have r.after
-  list-head h =
-      rw (add_assoc at 1 1, add_assoc at 2 1, add_assoc at 3 1) (
-        h.one.0,
-        h.one.1,
-        (h.two.0, h.two.1, (h.three.0, h.three.1, (h.four.0, h.four.1, sym h.place))),
-      )
-
-  pub list-band : Listed l at 2 r → Fetched (list_of l) at band_widths (r.a ∷ r.b ∷ []) 0 r.have r.after
-  list-band h = rw (add_assoc at 1 1) (h.one.0, h.one.1, (h.two.0, h.two.1, sym h.place))

@@ -2,7 +2,6 @@
 use Rattle.std.specs.Prelude.{ℕ, suc, ◌+◌, ◌*◌, ◌≡◌, Bool, List, [], ◌∷◌, leb, ltb, eqb, length, get_or}
 use Rattle.bits.specs.Field.{field}
 use Rattle.reader.specs.File.{ends_at}
-use Rattle.source.specs.declared.Fields.{Fields}
 
 -- fields one after another; a place is a bit's number in a file and an index in a list
 pub record Source : Type 0 where
@@ -70,19 +69,3 @@ pub record Whole (end at first second third fourth have : ℕ) : Type 0 where
   pub two : leb (at + second) end ≡ ltb 1 have
   pub three : leb (at + third) end ≡ ltb 2 have
   pub four : leb (at + fourth) end ≡ ltb 3 have
-
--- the next four numbers of a list, as far as they are there
-pub record Listed (l : List ℕ) (at want : ℕ) (r : Fields) : Type 0 where
-  pub one : (ltb at (length l) ≡ ltb 0 r.have) × (get_or l at 0 ≡ r.a)
-  pub two : (ltb (at + 1) (length l) ≡ ltb 1 r.have) × (get_or l (at + 1) 0 ≡ r.b)
-  pub three : (ltb (at + 2) (length l) ≡ ltb 2 r.have) × (get_or l (at + 2) 0 ≡ r.c)
-  pub four : (ltb (at + 3) (length l) ≡ ltb 3 r.have) × (get_or l (at + 3) 0 ≡ r.d)
-  pub place : r.after ≡ at + want
-
--- a leg's head in a file from a bit on
-abbrev pub HeadFields : List ℕ → ℕ → Fields → Type 0
-HeadFields s at r = Fetched (file_of s) at head_widths (r.a ∷ r.b ∷ r.c ∷ r.d ∷ []) 0 r.have r.after
-
--- a band in a file from a bit on
-abbrev pub BandFields : List ℕ → ℕ → Fields → Type 0
-BandFields s at r = Fetched (file_of s) at band_widths (r.a ∷ r.b ∷ []) 0 r.have r.after

@@ -3,22 +3,30 @@
 // function to the next: `network` asks for 900,000 before a leg's bands and for 800,000 before a leg, so that a place that has moved on is still within it.
 #![tactic(auto)]
 
-ghost use Rattle.std.specs.Prelude.{◌≡◌, ℕ, [], ◌∷◌, ◌+◌, ◌-◌, ◌*◌, ◌≤◌, length, get_or};
+ghost use Rattle.std.specs.Prelude.{◌≡◌, ℕ, ◌+◌, ◌-◌, ◌*◌, ◌≤◌, ◌<◌, ltb, length, get_or};
+ghost use Rattle.std.specs.Bool.{then_some};
 ghost use Rattle.bits.specs.Field.{field};
-ghost use Rattle.source.specs.Source.{Source, file_of, list_of, Whole, top_widths, head_widths, band_widths, Parts, Fetched, Listed, HeadFields, BandFields};
+ghost use Rattle.source.specs.Source.{Source, file_of, list_of, Whole, head_widths, band_widths, Parts};
+ghost use Rattle.source.specs.Fields.{Listed, TopFields, HeadFields, BandFields};
 ghost use Rattle.std.proofs.Math.Nat.{le_refl, add-le-add};
 
-// Up to four fields: how many are there, or more than were asked for; one that is not counts as 0. `after` is the place after the last that was asked for.
-// Four numbers and a count, not four Options: they are cut out of one load, where one test settles that all are there, and each reader tests the count as it comes to
-// a field.
+// N fields that stand one after another, and the place after the last. They are cut out of one load, where one test settles that all are there: so how many are
+// there, or more, is kept once, and one that is not counts as 0. Whoever wants a field asks for it by `get`.
 #[derive(Clone, Copy)]
-pub struct Fields {
+pub struct Fields<const N: usize> {
     pub have: usize,
-    pub a: u32,
-    pub b: u32,
-    pub c: u32,
-    pub d: u32,
+    pub values: [u32; N],
     pub after: usize,
+}
+
+impl<const N: usize> Fields<N> {
+    // Field k, if it is there.
+    pub fn get(&self, k: usize) -> Option<u32>
+        requires { k < N }
+        ensures { result ≡ then_some (ltb k self.now.have) (get_or self.now.values k 0) }
+    {
+        (k < self.have).then_some(self.values[k])
+    }
 }
 
 // The field of `width` bits at bit `at`; bits past the end count as 0.
@@ -37,7 +45,7 @@ fn padded(net: &[u8], at: usize, width: usize) -> u32
     reader::field(net, at, left) << (width - left)
 }
 
-// How many of four fields, which end so many bits after `at`, are there. Four numbers: each call writes them, and a list would have to say that they rise.
+// How many of four fields, which end so many bits after `at`, are there. Four numbers and no list: each call writes them out, and each has its own test and its own law.
 fn whole(net: &[u8], at: usize, first: usize, second: usize, third: usize, fourth: usize) -> usize
     requires { (at ≤ 1000000) × (first ≤ second) × (second ≤ third) × (third ≤ fourth) × (fourth ≤ 32) }
     ensures { Whole (8 * length net.now) at first second third fourth result }
@@ -58,21 +66,19 @@ fn whole(net: &[u8], at: usize, first: usize, second: usize, third: usize, fourt
 }
 
 // The head of a file: edition 8, places 7, legs 10.
-fn top_in_file(net: &[u8]) -> Fields
-    ensures { Fetched (file_of net.now) 0 top_widths (result.a ∷ result.b ∷ result.c ∷ []) 0 result.have result.after }
+fn top_in_file(net: &[u8]) -> Fields<3>
+    ensures { TopFields (file_of net.now) result }
 {
     let x = padded(net, 0, 25);
     Fields {
         have: whole(net, 0, 8, 15, 25, 25),
-        a: x / 0x2_0000,
-        b: x / 0x400 % 0x80,
-        c: x % 0x400,
-        d: 0,
+        values: [x / 0x2_0000, x / 0x400 % 0x80, x % 0x400],
         after: 25,
     }
 }
 
-// The same as `load`, where fewer than eight bytes are left: a function of its own and not inlined, so that `load` is small and is inlined.
+// The same as `load`, where fewer than eight bytes are left: a function of its own and not inlined, so that `load` is small and is inlined. Three ends, here and there:
+// see `whole`.
 #[inline(never)]
 fn load_near_end(net: &[u8], at: usize, first: usize, second: usize, third: usize) -> (u32, usize)
     requires { (at ≤ 1000000) × (first ≤ second) × (second ≤ third) × (third ≤ 28) }
@@ -116,35 +122,27 @@ pub fn band_parts(x: u32) -> [u32; 2]
 }
 
 // The head of a leg.
-fn head_in_file(net: &[u8], at: usize) -> Fields
+fn head_in_file(net: &[u8], at: usize) -> Fields<4>
     requires { at ≤ 1000000 }
-    ensures { HeadFields net.now at result }
+    ensures { HeadFields (file_of net.now) at result }
 {
     let (x, have) = load(net, at, 6, 12, 24);
-    let [a, b, c, d] = head_parts(x);
     Fields {
         have,
-        a,
-        b,
-        c,
-        d,
+        values: head_parts(x),
         after: at + 28,
     }
 }
 
 // A band.
-fn band_in_file(net: &[u8], at: usize) -> Fields
+fn band_in_file(net: &[u8], at: usize) -> Fields<2>
     requires { at ≤ 1000000 }
-    ensures { BandFields net.now at result }
+    ensures { BandFields (file_of net.now) at result }
 {
     let (x, have) = load(net, at, 12, 28, 28);
-    let [a, b] = band_parts(x);
     Fields {
         have,
-        a,
-        b,
-        c: 0,
-        d: 0,
+        values: band_parts(x),
         after: at + 28,
     }
 }
@@ -163,18 +161,19 @@ fn left(list: &[u32], at: usize) -> usize
     list.len().saturating_sub(at)
 }
 
-// The next four numbers of a list, of which `want` are asked for.
-fn in_list(list: &[u32], at: usize, want: usize) -> Fields
-    requires { (at ≤ 1000000) × (want ≤ 4) }
-    ensures { Listed list.now at want result }
+// The next N numbers of a list.
+fn in_list<const N: usize>(list: &[u32], at: usize) -> Fields<N>
+    requires { (at ≤ 1000000) × (N ≤ 4) }
+    ensures { Listed list.now at N result }
 {
+    let mut values = [0; N];
+    for (k, value) in values.iter_mut().enumerate() {
+        *value = number(list, at + k);
+    }
     Fields {
         have: left(list, at),
-        a: number(list, at),
-        b: number(list, at + 1),
-        c: number(list, at + 2),
-        d: number(list, at + 3),
-        after: at + want,
+        values,
+        after: at + N,
     }
 }
 
@@ -184,18 +183,18 @@ pub trait Origin {
     ghost source: { Self → Source };
 
     // The head of a network: edition, places, legs.
-    fn top(&self) -> Fields
-        ensures { Fetched (source self.now) 0 top_widths (result.a ∷ result.b ∷ result.c ∷ []) 0 result.have result.after };
+    fn top(&self) -> Fields<3>
+        ensures { TopFields (source self.now) result };
 
     // The head of a leg: from, to, driving time, bands.
-    fn head(&self, at: usize) -> Fields
+    fn head(&self, at: usize) -> Fields<4>
         requires { at ≤ 1000000 }
-        ensures { Fetched (source self.now) at head_widths (result.a ∷ result.b ∷ result.c ∷ result.d ∷ []) 0 result.have result.after };
+        ensures { HeadFields (source self.now) at result };
 
     // A band: start, toll.
-    fn band(&self, at: usize) -> Fields
+    fn band(&self, at: usize) -> Fields<2>
         requires { at ≤ 1000000 }
-        ensures { Fetched (source self.now) at band_widths (result.a ∷ result.b ∷ []) 0 result.have result.after };
+        ensures { BandFields (source self.now) at result };
 
     // Does the source end here: nothing but zero fill bits in a file, nothing at all in a list?
     fn ends(&self, at: usize) -> bool
@@ -219,15 +218,15 @@ impl<'a> Origin for File<'a> {
 
     ghost near = { λ f width at some. le_refl (at + width) };
 
-    fn top(&self) -> Fields {
+    fn top(&self) -> Fields<3> {
         top_in_file(self.0)
     }
 
-    fn head(&self, at: usize) -> Fields {
+    fn head(&self, at: usize) -> Fields<4> {
         head_in_file(self.0, at)
     }
 
-    fn band(&self, at: usize) -> Fields {
+    fn band(&self, at: usize) -> Fields<2> {
         band_in_file(self.0, at)
     }
 
@@ -241,16 +240,16 @@ impl<'a> Origin for Numbers<'a> {
 
     ghost near = { λ n width at some. add-le-add (le_refl at) some };
 
-    fn top(&self) -> Fields {
-        in_list(self.0, 0, 3)
+    fn top(&self) -> Fields<3> {
+        in_list::<3>(self.0, 0)
     }
 
-    fn head(&self, at: usize) -> Fields {
-        in_list(self.0, at, 4)
+    fn head(&self, at: usize) -> Fields<4> {
+        in_list::<4>(self.0, at)
     }
 
-    fn band(&self, at: usize) -> Fields {
-        in_list(self.0, at, 2)
+    fn band(&self, at: usize) -> Fields<2> {
+        in_list::<2>(self.0, at)
     }
 
     fn ends(&self, at: usize) -> bool {

@@ -21,10 +21,8 @@ const FILES: [&str; 9] = [
 
 // What the library says of an error, without the number that it adds in brackets.
 fn without_number(text: &str) -> &str {
-    match text.split_once(" (os error ") {
-        Some((words, _)) => words,
-        None => text,
-    }
+    text.split_once(" (os error ")
+        .map_or(text, |(words, _)| words)
 }
 
 // The cases of one file. One that cannot be opened is named on standard error, and the others are run all the same.

@@ -15,8 +15,8 @@ use Rattle.table.proofs.Tariffs.{sound-leg, few-legs, few-places, same-places}
 use Rattle.table.specs.declared.roads.Roads.{Roads}
 use Rattle.table.specs.Ask.{query}
 use Rattle.table.specs.Chains.{Next, Chained, link}
-use Rattle.table.specs.Kept.{Visiting, Onward, Visited}
-use Rattle.table.proofs.Keeping.{visiting-next, visiting-done}
+use Rattle.table.specs.Kept.{Visiting, Onward}
+use Rattle.table.proofs.Keeping.{visiting-next}
 use Rattle.table.proofs.Legs.{onward-none, onward-more}
 
 -- how far a visit of p has come: the legs from l on are done
@@ -43,18 +43,8 @@ module _ (g : Roads) (p : ℕ) (here : p < g.tariff.now.size.places) (row : List
     this-leaves : (theory_in g.tariff.now.net.now).source l ≡ p
     this-leaves = r.leaves l refl
 
-    pub riding-now : (l < g.tariff.now.size.legs)
-        × Visiting (theory_in g.tariff.now.net.now) (query g.ask) cells' low' row ((theory_in g.tariff.now.net.now).source l) from (l + 1)
-    riding-now = (
-      omega (arith, r.within),
-      subst (λ (o : ℕ). Visiting (theory_in g.tariff.now.net.now) (query g.ask) cells' low' row o from (l + 1)) (sym this-leaves) r.visiting,
-    )
-
     next-leg : Next (theory_in g.tariff.now.net.now) p l (link g.chains.now.before l)
     next-leg = rw this-leaves at (g.chained.befores l (omega (arith, r.within)))
-
-    pub riding-less : link g.chains.now.before l < l + 1
-    riding-less = omega (arith, next-leg.within)
 
     pub riding-more : (cells'' low'' : List ℕ)
         → Visiting (theory_in g.tariff.now.net.now) (query g.ask) cells'' low'' row ((theory_in g.tariff.now.net.now).source l) from l × Onward cells' cells'' low' low''
@@ -67,13 +57,6 @@ module _ (g : Roads) (p : ℕ) (here : p < g.tariff.now.size.places) (row : List
           (subst (λ (o : ℕ). Visiting (theory_in g.tariff.now.net.now) (query g.ask) cells'' low'' row o from l) this-leaves d.0);
       onward = onward-more cells cells' cells'' low low' low'' r.onward d.1;
     }
-
-  pub riding-done : (cells cells' low low' : List ℕ) → Riding g p row from cells cells' low low' 0
-      → Visited (theory_in g.tariff.now.net.now) (query g.ask) cells cells' low low'
-  riding-done cells cells' low low' r = record {
-    kept = visiting-done (theory_in g.tariff.now.net.now) (query g.ask) cells' low' row p from r.visiting;
-    onward = r.onward;
-  }
 
 -- ---- built up
 

@@ -13,7 +13,7 @@ use Rattle.network.specs.Network.{Network}
 use Rattle.chart.specs.Net.{net_in, theory, theory_in}
 use Rattle.chart.proofs.Net.{net-is, places-are, few_places, ranges}
 use Rattle.table.specs.declared.Ask.{Ask}
-use Rattle.table.specs.Ask.{Askable, columns, query}
+use Rattle.table.specs.Ask.{columns, query}
 use Rattle.table.specs.Kept.{Kept, Never, Clean, Outset}
 use Rattle.table.specs.Filled.{Fillable, Filled}
 use Rattle.table.proofs.Keeping.{row_fits}
@@ -22,9 +22,6 @@ use Rattle.table.proofs.Clean.{clean-table, outset-kept, any-end}
 module _ (file : SoundFile) (start : ℕ) (window : Window) (cells : List ℕ) (f : Fillable file.size start window cells) where
   abbrev pub this : Ask
   this = record { start = start; window = window }
-
-  pub may-ask : Askable this file.size
-  may-ask = record { home = f.home; window = f.order; clock = f.clock }
 
   fill-home : start < (net_in file.net.now).places
   fill-home = omega (arith, f.home, places-are file.net.now file.size file.sound)

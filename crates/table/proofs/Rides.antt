@@ -12,7 +12,7 @@ use Rattle.leg.specs.Ranges.{no_band}
 use Rattle.leg.specs.Toll.{toll_at, toll_of_first, either}
 use Rattle.leg.proofs.Laws.{toll-begun, toll-later}
 use Rattle.rows.specs.Row.{at}
-use Rattle.rows.specs.Whole.{cell, row_of, sum, LowerRow}
+use Rattle.rows.specs.Whole.{cell, row_of, LowerRow}
 use Rattle.rows.proofs.Wholes.{row_at}
 use Rattle.table.specs.Ride.{Banded, band_start, adds, Arrives, Rode}
 
@@ -144,39 +144,3 @@ module _ (leg : Leg) (earliest w from : ℕ) (row : List ℕ) where
       rode-lowered old new (toll_of leg k) first (band_start leg k) (band_start leg (k + 1)) fits
       (λ i f a h. toll_within leg b k (earliest + i) known a h)
       (rw (begins, ends, gives) at l)
-
-  -- first some, then more
-  pub rode-more : (old mid new : List ℕ) (first next lo on hi : ℕ) → Rode leg earliest w from old mid row first lo on
-      → Rode leg earliest w from mid new row next on hi → Rode leg earliest w from old new row (min first next) lo hi
-  rode-more old mid new first next lo on hi r s = record {
-    only = record {
-      long = s.only.long ∙ r.only.long;
-      others = λ o j n h. s.only.others o j n h ∙ r.only.others o j n h;
-    };
-    within = omega (arith, r.within);
-    kept = λ j h k. s.kept j (omega arith) k ∙ r.kept j (omega arith) k;
-    below = λ j h. omega (arith, r.below j h, s.below j h);
-    ridden = λ j h. arrives j h (r.ridden j h) (s.ridden j h);
-    obeys = λ i f a b h. obey i f a b h (dec_lt (earliest + i) on);
-    falls = omega (arith, r.falls, s.falls);
-    less = λ h. drops h (dec_lt first w);
-  }
-    where
-      arrives : (j : ℕ) → j < w
-          → (cell mid w leg.to j ≡ cell old w leg.to j) ⊎ Arrives leg earliest from row j (cell mid w leg.to j) (cell old w leg.to j)
-          → (cell new w leg.to j ≡ cell mid w leg.to j) ⊎ Arrives leg earliest from row j (cell new w leg.to j) (cell mid w leg.to j)
-          → (cell new w leg.to j ≡ cell old w leg.to j) ⊎ Arrives leg earliest from row j (cell new w leg.to j) (cell old w leg.to j)
-      arrives j h (inl d) (inl e) = inl (e ∙ d)
-      arrives j h (inr a) (inl e) =
-          inr (record { column = a.column; since = a.since; here = a.here; gives = e ∙ a.gives; lower = omega (arith, e, a.lower) })
-      arrives j h d (inr a) =
-          inr (record { column = a.column; since = a.since; here = a.here; gives = a.gives; lower = omega (arith, r.below j h, a.lower) })
-
-      obey : (i : ℕ) → from ≤ i → lo ≤ earliest + i → earliest + i < hi → i + leg.time.0 < w → Dec (earliest + i < on)
-          → cell new w leg.to (i + leg.time.0) ≤ at row i + adds leg earliest i
-      obey i f a b h (yes u) = omega (arith, s.below (i + leg.time.0) h, r.obeys i f a u h)
-      obey i f a b h (no u) = s.obeys i f (omega arith) b h
-
-      drops : min first next < w → Dec (first < w) → sum new < sum old
-      drops h (yes a) = omega (arith, r.less a, s.falls)
-      drops h (no a) = omega (arith, s.less (omega arith), r.falls)

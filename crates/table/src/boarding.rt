@@ -2,7 +2,7 @@
 ghost use Rattle.std.specs.Prelude.{◌≡◌, ◌+◌, ◌*◌, ◌-◌, ◌≤◌, ◌<◌, length};
 ghost use Rattle.table.specs.Ride.{Banded, band_start, Rode, RodeOut};
 
-use leg::{Cents, Leg, Minute};
+use leg::{Leg, Minute};
 use rows::Rides;
 
 // A leg, the window as its first minute and its number of columns, the row of the place that the leg leaves, and the first column from
@@ -20,8 +20,7 @@ pub struct Boarding<'a> {
     pub ghost room: { w ≤ length row.now },
 }
 
-// That the target's row lies in `cells` is asked for at each ride: with `cells` lent to the struct, each contract would say of the rest that
-// it stays.
+// That the target's row lies in `cells` is asked for at each ride: of a struct that lends `cells`, each contract would say that it lends the same ones afterwards.
 impl<'a> Boarding<'a> {
     // The column of a minute; that of the window's first minute where it is earlier.
     fn column(&self, minute: Minute) -> usize
@@ -49,7 +48,7 @@ impl<'a> Boarding<'a> {
             from,
             until,
             time,
-            add: adds(self.leg.bands[k].toll),
+            add: rows::adds(self.leg.bands[k].toll),
         };
         rows::lower_row(cells, self.w, self.leg.to as usize, rides)
     }
@@ -77,14 +76,8 @@ impl<'a> Boarding<'a> {
     }
 }
 
-// What a ride at this toll adds to a cell: 64 for each cent, and 1 for the leg.
-fn adds(toll: Cents) -> u64
-    ensures { (result ≡ 64 * toll.0 + 1) × (result < 1000000000000) }
-{
-    64 * u64::from(toll.0) + 1
-}
-
-// The minute at which band k starts; past the last band, the end of the clock.
+// The minute at which band k starts; past the last band, the end of the clock. `rule_b::start_of` says it of a leg in a file, with a minute that never comes: one function
+// for both would be over a trait of two methods.
 fn band_start(leg: Leg, k: usize) -> Minute
     requires { leg.count ≤ 8 }
     ensures { result.0 ≡ band_start leg k }

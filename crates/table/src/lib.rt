@@ -31,7 +31,7 @@ struct Chains {
 }
 
 impl Chains {
-    // Hangs each leg on the chain of the place that it leaves: filled where they lie, since chains given back would be copied.
+    // Hangs each leg on the chain of the place that it leaves: filled where they lie, since chains given back would be copied. By index: it is the leg's number.
     fn hang(&mut self, tariff: &Tariff)
         requires { self.old.last ≡ replicate 64 None }
         ensures { Chained (theory_in tariff.now.net.now) tariff.now.size.legs self.new.last self.new.before }
@@ -56,10 +56,7 @@ fn next(low: &[usize], p: usize, places: usize, w: usize) -> Option<usize>
     requires { (p ≤ places) × (places ≤ length low.now) }
     ensures { NextNew low.now places w result }
 {
-    match first_new(low, p, places, w) {
-        Some(ahead) => Some(ahead),
-        None => first_new(low, 0, p, w),
-    }
+    first_new(low, p, places, w).or_else(|| first_new(low, 0, p, w))
 }
 
 // Before the first visit: who waits at the start has paid nothing, and no other cell has a plan yet.
@@ -75,7 +72,8 @@ fn outset(start: usize, w: usize, cells: &mut [u32], low: &mut [usize])
     low[start] = 0;
 }
 
-// The minute table of a sound network file: 64 × cost + legs for each place and minute of the window.
+// The minute table of a sound network file: 64 × cost + legs for each place and minute of the window. Start and window are two values: docs/ARCHITECTURE.md names this
+// function. What it fills besides has room for the largest network and the whole clock: no heap, fixed memory.
 pub fn fill(file: SoundFile<'_>, start: u32, window: Window, cells: &mut [u32])
     requires { Fillable file.size start window cells.old }
     ensures { Filled file.entry.net.now start window cells.old cells.new }

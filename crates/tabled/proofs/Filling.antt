@@ -11,7 +11,7 @@ use Rattle.network.specs.declared.sound_file.SoundFile.{SoundFile}
 use Rattle.network.specs.Network.{of_file}
 use Rattle.network.specs.Answers.{network_found}
 use Rattle.plan.specs.Table.{width, cell_at, MinuteTable}
-use Rattle.table.specs.Filled.{Fillable, Filled as FilledCells}
+use Rattle.table.specs.Filled.{Filled as FilledCells}
 use Rattle.plan_file.specs.declared.Query.{Query as Asked}
 use Rattle.plan_file.specs.PlanFile.{query_of, window_of}
 use Rattle.chart.specs.Net.{net_in, theory_in}
@@ -36,10 +36,6 @@ module _ (net : List ℕ) (a : Asked) (table : List ℕ) where
         → judged (of_file net) (query_of a) (length table) ≡ with_network j (theory_in net)
     by-judgement j e = judged_is net (query_of a) (length table) file.size ok ∙ ap (λ (j : Result Unit Refusal). with_network j (theory_in net)) e
 
-    -- 6 to 8
-    pub query-refused : (why : Refusal) → judgement file.size.places (query_of a) (length table) ≡ Err why → Unfilled net a table table why
-    query-refused why e = record { judged_is = by-judgement (Err why) e; table_is = refl }
-
     -- the tests are passed, and the first n cells are lent on
     module _ (e : judgement file.size.places (query_of a) (length table) ≡ Ok tt) (n : ℕ) (is : n ≡ file.size.places * width (query_of a)) where
       tests : Passed file.size.places (query_of a) (length table)
@@ -47,15 +43,6 @@ module _ (net : List ℕ) (a : Asked) (table : List ℕ) where
 
       pub fits : n ≤ length table
       fits = omega (arith, is, tests.room)
-
-      pub fillable : Fillable file.size a.start (window_of a) (take n table)
-      fillable =
-          record {
-            home = tests.start;
-            order = tests.window;
-            clock = tests.latest;
-            long = length-take-le n table fits ∙ is;
-          }
 
       module _ (cells : List ℕ) (f : FilledCells file.net.now a.start (window_of a) (take n table) cells) where
         minutes : MinuteTable (theory_in net) (query_of a) (cell_at (query_of a) cells)

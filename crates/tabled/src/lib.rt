@@ -18,7 +18,7 @@ fn area(places: u32, width: u32) -> usize
     (places * width) as usize
 }
 
-// 6, 7 and 8. The gate has the first two: see there.
+// 6, 7 and 8. The gate has the first two as well: one function for both, with its contract, would be no shorter.
 fn judge_query(places: u32, query: Query, room: usize) -> Result<(), Refusal>
     requires { places ≤ 64 }
     ensures { result ≡ judgement places (query_of query) room }

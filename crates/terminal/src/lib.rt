@@ -14,7 +14,7 @@ ghost use Rattle.terminal.specs.Reply.{Replies, PlanReplies, Says};
 use answer::{Done, Refusal};
 use plan_file::Query;
 
-// What comes back: the paper's number, and the length of what was written.
+// What comes back: the paper's number, and the length of what was written. A number with a value beside it: the C interface.
 #[repr(C)]
 #[derive(Clone, Copy, PartialEq, Eq)]
 pub struct Reply {
@@ -47,7 +47,8 @@ pub fn haul_write(list: &[u32], out: &mut [u8]) -> Reply
     Reply::from(write_call::write(list, out))
 }
 
-// The named plan of a query, as a plan file, with the minute table. Two calls alike, this and the sheet's, of seven values each: the C interface.
+// The named plan of a query, as a plan file, with the minute table. Two calls alike, this and the sheet's, and a query as four numbers in each: what may not change, since
+// docs/ARCHITECTURE.md names this crate as what other programs call, and `terminal_c` hands over what C gives.
 pub fn haul_plan(
     net: &[u8],
     start: u32,

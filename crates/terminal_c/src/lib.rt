@@ -1,4 +1,5 @@
-// The archive that other programs link: the calls of `terminal` under their C names, with the same promises.
+// The archive that other programs link: the calls of `terminal` under their C names, with the same promises. Each call stands in both crates: a crate is a library or an
+// archive, and `cases` needs the library.
 #![tactic(auto)]
 
 ghost use Rattle.std.specs.Prelude.{◌≡◌};

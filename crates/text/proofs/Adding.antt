@@ -32,10 +32,6 @@ few-digits (suc k) n = at (ltb n 10) (few-digits k (n / 10))
     at true h = omega arith
     at false h = omega (arith, length-append (decimal k (n / 10)) ((48 + n % 10) ∷ []), h)
 
--- on a page: nothing, and one text behind another
-pub writes_none : (page : Page) → page.at ≤ length page.out.now → Writes page page []
-writes_none page h = record { adds = adds_none page.out.now page.at h; same = refl }
-
 pub writes_then : {p q r : Page} {xs ys : List ℕ} → Writes p q xs → Writes q r ys → Writes p r (xs ++ ys)
 writes_then a b = record { adds = adds_then a.adds b.adds; same = b.same ∙ a.same }
 

@@ -2,7 +2,7 @@
 use Prim.Native.Nat.{ℕ, ◌+◌, ◌*◌, ◌≤◌, ◌<◌}
 use native.Mathlib.Omega.{arith}
 use native.Mathlib.Nat.{mul-le-mul_right, add-mul}
-use mathlib.Core.Path.{◌≡◌, refl, sym, ap, ◌∙◌, subst}
+use mathlib.Core.Path.{◌≡◌, refl, sym, subst}
 use mathlib.Core.List.{List}
 use lib.Dec.{T}
 use lib.ListN.{length}
@@ -15,11 +15,10 @@ use Rattle.network.specs.Answers.{network_found}
 use Rattle.network.proofs.Sound.{SoundLeg}
 use Rattle.plan.specs.Network.{Minute, Network, Query, Within}
 use Rattle.plan.specs.Table.{width}
-use Rattle.plan.proofs.Walk.{Fits}
 use Rattle.chart.specs.Net.{net_in, theory_in, leg_in}
 use Rattle.chart.proofs.Net.{places-are, few_places, leg-known, leg-sound}
 use Rattle.walk.specs.Cells.{InTable}
-use Rattle.walk.specs.Walk.{LegFits, ReadsFrom}
+use Rattle.walk.specs.Walk.{ReadsFrom}
 
 -- leg k of the network is this one
 pub record HasLeg (N : Network) (k : ℕ) (l : Leg) : Type 0 where
@@ -29,26 +28,6 @@ pub record HasLeg (N : Network) (k : ℕ) (l : Leg) : Type 0 where
   pub time : N.time k ≡ l.time.0
   pub goes : (d : Minute) → T (N.goes k d)
   pub toll : (d : Minute) → N.toll k d ≡ toll_at l d
-
--- a leg that fits, by its number and by itself
-module _ (N : Network) (q : Query) (c : ℕ → Minute → ℕ) (k : ℕ) (l : Leg) (h : HasLeg N k l) (p : ℕ) (a d : Minute) where
-  pub fits-of : a ≤ q.latest → LegFits q c l p a d → Fits N q c p a k d
-  fits-of late f =
-      record {
-        leaves = record { known = h.known; goes = h.goes d; early = f.early; late = omega (arith, h.time, f.arrives) };
-        reaches = h.target ∙ f.reaches;
-        arrives = omega (arith, h.time, f.arrives);
-        explains = omega (arith, ap (λ (x : ℕ). c x d) h.source, h.toll d, f.explains);
-      }
-
-  pub of-fits : Fits N q c p a k d → LegFits q c l p a d
-  of-fits f =
-      record {
-        reaches = sym h.target ∙ f.reaches;
-        early = f.leaves.early;
-        arrives = omega (arith, h.time, f.arrives);
-        explains = omega (arith, ap (λ (x : ℕ). c x d) h.source, h.toll d, f.explains);
-      }
 
 -- the row of a place is in the table
 pub row_room : (w n p places : ℕ) → p + 1 ≤ places → places * w ≤ n → p * w + w ≤ n

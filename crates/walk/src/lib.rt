@@ -48,7 +48,7 @@ impl<'a> Walk<'a> {
         let goal = self.table.cell(place, arrival);
         let source = self.table.cell(leg.from, departure);
         let toll = leg.toll_at(departure);
-        u64::from(source) + (64 * u64::from(toll.0) + 1) == u64::from(goal)
+        u64::from(source) + rows::adds(toll) == u64::from(goal)
     }
 
     // The same of the leg of a number, which is decoded only if it goes to the place.
@@ -63,7 +63,8 @@ impl<'a> Walk<'a> {
         self.explains(self.tariff.leg(number), place, arrival)
     }
 
-    // The lowest leg that arrives at this place and minute and explains the cell there.
+    // The lowest leg that arrives at this place and minute and explains the cell there. A `for` and no `find`, here and in `Table::first`: `find` wants a proof of what its
+    // closure asks of each number, and is longer with it.
     fn find_leg(&self, place: u32, arrival: Minute) -> Hop
         requires { Arriving self.now place arrival.0 × (cells_of self.now place arrival.0 ≢ 0) }
         ensures { Hops (theory_of self.now) (asked_of self.now) (cells_of self.now) place arrival.0 result }
@@ -88,7 +89,7 @@ impl<'a> Walk<'a> {
         requires { Arriving self.now place arrival.0 × RoomFor out.old (cells_of self.now place arrival.0) }
         ensures { Walked (theory_of self.now) (asked_of self.now) (cells_of self.now) place arrival.0 out.old out.new }
     {
-        let legs = self.table.cell(place, arrival) % 64;
+        let legs = rows::legs_of(self.table.cell(place, arrival));
         if 0 < legs {
             let hop = self.find_leg(place, arrival);
             plan_file::put_ride(out, legs - 1, hop.leg, hop.departure);
@@ -115,7 +116,13 @@ impl<'a> Walk<'a> {
         let query = self.table.query;
         let here = self.table.cell(query.end, arrival);
         bits::clear(file);
-        plan_file::put_head(file, Verdict::Plan, query, Cents(here / 64), here % 64);
+        plan_file::put_head(
+            file,
+            Verdict::Plan,
+            query,
+            rows::cost_of(here),
+            rows::legs_of(here),
+        );
         self.arrival_to_leg(file, query.end, arrival);
     }
 }

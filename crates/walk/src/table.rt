@@ -24,7 +24,8 @@ impl<'a> Table<'a> {
         self.cells[at]
     }
 
-    // The first minute at which the place has the cell that it has at `minute`, the digits below `unit` aside.
+    // The first minute at which the place has the cell that it has at `minute`, the digits below `unit` aside: with 64 the cost alone, with 1 the whole cell. A number, since
+    // the promise holds of any (`FirstLike`). A `for` and no `find`: see `Walk::find_leg`.
     pub fn first(&self, place: u32, minute: Minute, unit: u32) -> Minute
         requires { (1 ≤ unit) × InTable self.now.cells.now (query_of self.now.query) place minute.0 }
         ensures { FirstLike (query_of self.now.query) (cell_at (query_of self.now.query) self.now.cells.now)

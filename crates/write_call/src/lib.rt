@@ -25,8 +25,7 @@ fn put_leg(out: &mut [u8], at: usize, leg: Leg)
         leg.from * 0x40_0000 + leg.to * 0x1_0000 + leg.time.0 * 0x10 + leg.count as u32,
     );
     let bands = at + 28;
-    for k in 0..leg.count {
-        let band = leg.bands[k];
+    for (k, band) in leg.bands[..leg.count].iter().enumerate() {
         bits::put(
             out,
             bands + 28 * k,
@@ -70,7 +69,7 @@ pub fn write(list: &[u32], out: &mut [u8]) -> Answer
     ensures { Writes list.now out.old out.new result }
 {
     let size = network::network_from(&Numbers(list))?;
-    let bytes = (32 + 28 * size.legs + 28 * size.bands) / 8;
+    let bytes = (25 + 28 * size.legs + 28 * size.bands).div_ceil(8);
     if out.len() < bytes {
         return Err(Refusal::Room);
     }

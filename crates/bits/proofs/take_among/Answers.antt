@@ -1,6 +1,4 @@
 -- `bits::take_among`: the field is cut out of the bytes that hold it.
-use Prim.Native.Nat.{◌+◌, ◌%◌, ◌≤◌}
-use native.Mathlib.Omega.{arith}
 use mathlib.Core.Path.{◌∙◌}
 use Rattle.bits.proofs.Bytes.{field_cut}
 use Rattle.bits.proofs.take_among.Goals as goal

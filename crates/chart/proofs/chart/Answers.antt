@@ -1,7 +1,7 @@
 -- `chart::chart`: the next leg stands just behind this one's bands.
 use Prim.Native.Nat.{ℕ, ◌+◌, ◌*◌, ◌≤◌, ◌<◌}
 use native.Mathlib.Omega.{arith}
-use mathlib.Core.Path.{◌≡◌, sym, ap, subst}
+use mathlib.Core.Path.{◌≡◌, refl, sym, ap, subst}
 use mathlib.Core.List.{List}
 use lib.ListN.{set}
 use Rattle.leg.specs.declared.Leg.{Leg}
@@ -14,6 +14,7 @@ use Rattle.network.specs.Answers.{network_found}
 use Rattle.network.proofs.Accepted.{passed-leg}
 use Rattle.network.proofs.Files.{sound-file, one-network}
 use Rattle.network.proofs.Near.{file_near, leg-near, LegEnds, leg-ends}
+use Rattle.network.proofs.InFile.{leg-there}
 use Rattle.chart.specs.Chart.{Charted}
 use Rattle.chart.proofs.Charting.{Charting, charting-none, charting-more, charting-at, charting-all}
 use Rattle.chart.proofs.chart.Goals as goal
@@ -25,6 +26,7 @@ record Next (net : List ℕ) (size : Size) (k place : ℕ) : Type 0 where
   stands : leg edition1 size.places (file_of net) place ≡ found leg-is end
   ends : LegEnds net place end
   near : end ≤ place + 252
+  few : leg-is.count ≤ 8
 
 next : (net : List ℕ) (size : Size) (k place : ℕ) (chart : List ℕ) → network_found (of_file net) ≡ Ok size → k < size.legs
     → Charting net size.places size.legs k place chart → Next net size k place
@@ -37,6 +39,7 @@ next net size k place chart sound h p =
       stands = t.2;
       ends = leg-ends net size.places place t.0 t.1 t.2;
       near = (leg-near (file_of net) (file_near net) size.places place t.0 t.1 t.2).0;
+      few = (leg-near (file_of net) (file_near net) size.places place t.0 t.1 t.2).1;
     }
 
 pub loop-k-init : goal.loop-k-init
@@ -47,13 +50,14 @@ loop-k-init c =
     let size = ap (λ (x : Size). x.legs) f.size_is in
     (omega (arith, few, size), omega arith, λ z e. charting-none a.file.net.now z.places a.file.size.legs)
 
-pub field-bands-requires : goal.field-bands-requires
-field-bands-requires c =
+pub invariant_of-leg : goal.invariant_of-leg
+invariant_of-leg c =
     let a = c.args in
     let l = c.loop-k in
     let sound = a.file.sound in
     let n = next a.file.net.now a.file.size l.k l.place l.chart sound (omega arith) (l.invariant.2 a.file.size sound) in
-    (omega arith, omega arith, omega (arith, n.ends.there))
+    let same = leg-there a.file.net.now a.file.size.places l.place n.leg-is n.end n.stands in
+    record { there = record { near = omega (arith, l.invariant.1, l.invariant.0); few = omega (arith, n.few, same.count_is); count_is = refl; inside = omega (arith, same.inside, same.count_is) } }
 
 pub loop-k-preserved : goal.loop-k-preserved
 loop-k-preserved c =
@@ -62,7 +66,7 @@ loop-k-preserved c =
     let sound = a.file.sound in
     let p = l.invariant.2 a.file.size sound in
     let n = next a.file.net.now a.file.size l.k l.place l.chart sound (omega arith) p in
-    let there : l.place + (28 + 28 * c.field-bands.result) ≡ n.end = omega (arith, n.ends.end_is, c.field-bands.ensures) in (
+    let there : l.place + (28 + 28 * c.count-bands.result) ≡ n.end = omega (arith, n.ends.end_is, c.count-bands.ensures) in (
       l.invariant.0,
       omega (arith, n.near, there),
       λ z e.

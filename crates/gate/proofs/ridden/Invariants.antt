@@ -5,4 +5,4 @@ use Rattle.gate.specs.Parts.{Riding}
 use Rattle.gate.proofs.ridden.Given as goal
 
 abbrev pub invariant-loop-k : goal.invariant-loop-k
-invariant-loop-k l = Riding (theory_in l.fn.tariff.net.now) (query_of l.fn.query) l.plan l.k l.state
+invariant-loop-k l = Riding (theory_in l.fn.tariff.net.now) (query_of l.plan.query) l.plan.bytes.now l.k l.state

@@ -1,4 +1,4 @@
-use Prim.Native.Nat.{ℕ, ◌+◌, ◌*◌, ◌/◌, ◌%◌}
+use Prim.Native.Nat.{ℕ, ◌%◌}
 use lib.Seq.{length-take-le}
 use mathlib.Core.Path.{◌≡◌, sym, ap, ◌∙◌, subst}
 use mathlib.Core.List.{List}
@@ -11,7 +11,6 @@ use Rattle.tabled.proofs.Serving.{end-in}
 use Rattle.chart.specs.Net.{theory_in}
 use Rattle.plan_call.proofs.Answers.{no_room, room, none_right, arrival-in, ending, too_long, written}
 use native.Mathlib.Omega.{arith}
-use borrow.Author.Rules.{rules}
 use Rattle.plan_call.proofs.answer.Goals as goal
 
 pub returns-then-out-lt12 : goal.returns-then-out-lt12
@@ -32,12 +31,12 @@ pub returns-then-out-bytes : goal.returns-then-out-bytes
 returns-then-out-bytes c =
     let a = c.args in
     too_long a.file a.table.query a.table.cells.now c.requires (λ e. c.if-cell.false (c.cell.ensures ∙ e)) _ c.first-arrival.ensures
-    c.cell-legs.result c.cell-legs.ensures a.out.now c.if-out-bytes.true
+    c.cell-2.result c.cell-2.ensures a.out.now (omega (arith, c.if-out-bytes.true, c.div_ceil-bytes.ensures, c.legs_of-legs.ensures))
 
 pub returns : goal.returns
 returns c =
     let a = c.args in
-    let n = (96 + 21 * (c.cell-legs.result % 64)) / 8 in
+    let n = c.div_ceil-bytes.result in
     let net : c.of-tariff.result.net.now ≡ a.file.net.now = ap (λ r. r.now) c.of-tariff.ensures.0 in
     let named = subst (λ (s : List ℕ). NamedFile (theory_in s) (query_of a.table.query) c.write_plan.new.file) net c.write_plan.ensures in
     written (theory_in a.file.net.now) (query_of a.table.query) a.out.now c.write_plan.new.file named n
@@ -46,23 +45,13 @@ returns c =
 pub cell-requires : goal.cell-requires
 cell-requires c = let a = c.args in end-in a.file a.table.query a.table.cells.now c.requires
 
-pub slice_bounds-write_none-end-then-cell : goal.slice_bounds-write_none-end-then-cell
-slice_bounds-write_none-end-then-cell c = sym (length-take-le 12 c.args.out.now c.if-out-lt12.false)
-
-pub write_none-requires : goal.write_none-requires
-write_none-requires c =
-    (search rules, length-take-le 12 c.args.out.now c.if-out-lt12.false)
-
 pub first-arrival-requires : goal.first-arrival-requires
 first-arrival-requires c = let a = c.args in (omega arith, end-in a.file a.table.query a.table.cells.now c.requires)
 
-pub cell-legs-requires : goal.cell-legs-requires
-cell-legs-requires c =
+pub cell-requires-2 : goal.cell-requires-2
+cell-requires-2 c =
     let a = c.args in
     arrival-in a.file a.table.query a.table.cells.now c.requires (λ e. c.if-cell.false (c.cell.ensures ∙ e)) _ c.first-arrival.ensures
-
-pub slice_bounds-write_plan-end-2 : goal.slice_bounds-write_plan-end-2
-slice_bounds-write_plan-end-2 c = sym (length-take-le _ c.args.out.now c.if-out-bytes.false)
 
 pub write_plan-requires : goal.write_plan-requires
 write_plan-requires c =
@@ -71,6 +60,6 @@ write_plan-requires c =
     let net : t.net.now ≡ a.file.net.now = ap (λ r. r.now) c.of-tariff.ensures.0 in
     let tabled = subst (λ (s : List ℕ). Tabled s t.size a.table.query a.table.cells.now) (sym net)
     (subst (λ (z : Size). Tabled a.file.net.now z a.table.query a.table.cells.now) (sym c.of-tariff.ensures.1) c.requires) in
-    let long = length-take-le ((96 + 21 * (c.cell-legs.result % 64)) / 8) a.out.now c.if-out-bytes.false in
-    let legs = ap (λ (x : ℕ). x % 64) c.cell-legs.ensures in
-    (ending _ tabled (λ e. c.if-cell.false (c.cell.ensures ∙ e)) _ c.first-arrival.ensures, long ∙ omega (arith, legs))
+    let long = length-take-le c.div_ceil-bytes.result a.out.now c.if-out-bytes.false in
+    let legs = c.legs_of-legs.ensures ∙ ap (λ (x : ℕ). x % 64) c.cell-2.ensures in
+    (ending _ tabled (λ e. c.if-cell.false (c.cell.ensures ∙ e)) _ c.first-arrival.ensures, long ∙ omega (arith, c.div_ceil-bytes.ensures, legs))

@@ -10,7 +10,7 @@ use Rattle.leg.specs.Ranges.{no_band}
 use Rattle.network.specs.Fields.{band_fields, bands_fields, values}
 use Rattle.network.specs.InFile.{leg_at}
 use Rattle.network.proofs.InFile.{band-there}
-use Rattle.read_call.proofs.Stores.{head-fields, band-stored, leg-stored}
+use Rattle.read_call.proofs.Stores.{head-fields, band-stored}
 use Rattle.read_call.proofs.list_leg.Goals.{After-head_parts-fields}
 use Rattle.read_call.proofs.list_leg.Goals as goal
 
@@ -21,36 +21,9 @@ head_is c = c.head_parts-fields.ensures c.args.leg.net.now c.args.leg.at c.field
 count_is : (c : After-head_parts-fields) → get_or c.head_parts-fields.result 3 0 ≡ (leg_at c.args.leg.net.now c.args.leg.at).count
 count_is c = ap (λ (vs : List ℕ). get_or vs 3 0) (head_is c)
 
-pub returns : goal.returns
-returns c =
-    let a = c.args in
-    let l = c.loop-k in
-    let leg = leg_at a.leg.net.now a.leg.at in
-    let head = (goal.at.returns c).After-head_parts-fields in
-    let all : l.k ≡ leg.count = omega (arith, l.auto.k-end, c.loop-k-test.false, count_is head) in
-    let first = c.store.ensures ∙ ap (λ (vs : List ℕ). sets a.list.now a.at vs) (head_is head) in (
-      count_is head,
-      l.invariant.1
-          ∙ ap (λ (n : ℕ). sets c.store.new.list (a.at + 4) (values (bands_fields n leg.bands))) all
-          ∙ ap (λ (x : List ℕ). sets x (a.at + 4) (values (bands_fields leg.count leg.bands))) first
-          ∙ leg-stored a.list.now a.at leg,
-    )
-
-pub field-requires : goal.field-requires
-field-requires c = (omega arith, omega arith, omega (arith, c.args.leg.there.inside))
-
-pub store-requires : goal.store-requires
-store-requires c = omega (arith, c.requires)
-
 pub loop-k-init : goal.loop-k-init
 unfolding bands_fields
 loop-k-init c = (refl, refl)
-
-pub field-requires-in-loop-k : goal.field-requires-in-loop-k
-field-requires-in-loop-k c = (omega arith, omega arith, omega (arith, c.args.leg.there.inside, count_is (goal.at.field-requires-in-loop-k c).After-head_parts-fields))
-
-pub store-requires-in-loop-k : goal.store-requires-in-loop-k
-store-requires-in-loop-k c = omega (arith, c.requires, c.loop-k.invariant.0, c.store.auto.list, count_is (goal.at.store-requires-in-loop-k c).After-head_parts-fields)
 
 pub loop-k-preserved : goal.loop-k-preserved
 loop-k-preserved c =

@@ -37,9 +37,6 @@ overflow_cast-legs c =
     let f = sound-file a.file.net.now a.file.size a.file.sound in
     omega (arith, f.sound.few_legs, ap (λ (x : Size). x.legs) f.size_is)
 
-pub store-requires : goal.store-requires
-store-requires c = omega (arith, c.requires)
-
 pub loop-k-init : goal.loop-k-init
 loop-k-init c =
     let a = c.args in
@@ -95,23 +92,8 @@ list_leg-bands-requires c =
     let t = turn (goal.at.list_leg-bands-requires c).In-loop-k in
     omega (arith, t.list-room, t.same.count_is)
 
-pub overflow_mul-at : goal.overflow_mul-at
-overflow_mul-at c = omega (arith, c.list_leg-bands.ensures.0, (turn (goal.at.overflow_mul-at c).In-loop-k).same.count_is, (turn (goal.at.overflow_mul-at c).In-loop-k).few)
-
-pub overflow_add-at : goal.overflow_add-at
-overflow_add-at c = omega (arith, c.list_leg-bands.ensures.0, (turn (goal.at.overflow_add-at c).In-loop-k).same.count_is, (turn (goal.at.overflow_add-at c).In-loop-k).few)
-
 pub overflow_add-at-in-loop-k : goal.overflow_add-at-in-loop-k
 overflow_add-at-in-loop-k c = omega (arith, c.list_leg-bands.ensures.0, (turn (goal.at.overflow_add-at-in-loop-k c).In-loop-k).same.count_is, (turn (goal.at.overflow_add-at-in-loop-k c).In-loop-k).list-room, c.loop-k.invariant.2, c.store.auto.list, length-set c.args.list.now 0 1, c.well_formed.1.0)
-
-pub overflow_mul-place : goal.overflow_mul-place
-overflow_mul-place c = omega (arith, c.list_leg-bands.ensures.0, (turn (goal.at.overflow_mul-place c).In-loop-k).same.count_is, (turn (goal.at.overflow_mul-place c).In-loop-k).few)
-
-pub overflow_add-place : goal.overflow_add-place
-overflow_add-place c = omega (arith, c.list_leg-bands.ensures.0, (turn (goal.at.overflow_add-place c).In-loop-k).same.count_is, (turn (goal.at.overflow_add-place c).In-loop-k).few)
-
-pub overflow_add-place-in-loop-k : goal.overflow_add-place-in-loop-k
-overflow_add-place-in-loop-k c = omega (arith, c.list_leg-bands.ensures.0, (turn (goal.at.overflow_add-place-in-loop-k c).In-loop-k).same.count_is, (turn (goal.at.overflow_add-place-in-loop-k c).In-loop-k).few, c.loop-k.invariant.1, c.loop-k.invariant.0)
 
 pub loop-k-preserved : goal.loop-k-preserved
 loop-k-preserved c =
@@ -128,6 +110,3 @@ loop-k-preserved c =
       listing-at a.file.net.now a.file.size.places a.file.size.legs (l.k + 1) t.end _ _ _ _ _ next index
           (listing-more a.file.net.now a.file.size.places a.file.size.legs _ l.k l.place l.at l.list t.this t.end _ l.invariant.3 (omega arith) t.read numbers),
     )
-
-pub shape_of-list : goal.shape_of-list
-shape_of-list c = omega (arith, c.loop-k.invariant.2, c.store.auto.list, length-set c.args.list.now 0 1)

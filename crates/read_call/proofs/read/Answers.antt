@@ -1,23 +1,16 @@
 use Prim.Native.Nat.{ℕ, ◌≤◌}
 use native.Mathlib.Omega.{arith}
-use mathlib.Core.Path.{◌≡◌, refl, sym, ap, subst, ◌∙◌}
+use mathlib.Core.Path.{◌≡◌, refl, ap, subst, ◌∙◌}
 use mathlib.Core.List.{List}
-use borrow.Author.Rules.{rules}
-use Rattle.std.specs.Prelude.{Ok, Err}
+use Rattle.std.specs.Prelude.{Ok}
 use Rattle.network.specs.declared.sound_file.SoundFile.{SoundFile}
 use Rattle.network.specs.Network.{of_file}
 use Rattle.network.specs.Answers.{network_found}
 use Rattle.network.proofs.Files.{sound-file, sound-size}
-use Rattle.read_call.specs.Read.{Reads, listed}
-use Rattle.read_call.proofs.Results.{reads-refused, reads_short, reads-done}
+use Rattle.read_call.specs.Read.{listed}
+use Rattle.read_call.proofs.Results.{reads_short, reads-done}
 use Rattle.read_call.proofs.read.Goals.{In_ok-file}
 use Rattle.read_call.proofs.read.Goals as goal
-
-pub returns-in_err-file : goal.returns-in_err-file
-returns-in_err-file c =
-    let why = c.in_err-file.field-0.0 in
-    let said : c.from_residual.result ≡ Err why = search rules in
-    subst (Reads c.args.net.now c.args.list.now c.args.list.now) (sym said) (reads-refused c.args.net.now c.args.list.now why c.in_err-file.ensures)
 
 -- the file that was judged is the one that was lent
 sound : (c : In_ok-file) → network_found (of_file c.args.net.now) ≡ Ok c.in_ok-file.file.size

@@ -1,14 +1,11 @@
 use native.Mathlib.Omega.{arith}
 use mathlib.Core.Path.{◌≡◌}
 use lib.ListN.{length}
-use borrow.Author.Tests.{eq-eqb, ne_eqb}
+use borrow.Author.Tests.{eq-eqb}
 use Rattle.bits.specs.Packed.{bytes_for}
 use Rattle.bits.proofs.Fields.{field-none}
 use Rattle.reader.proofs.ends.Goals.{Else-file-div_ceil}
 use Rattle.reader.proofs.ends.Goals as goal
-
-pub returns-then-file-div_ceil : goal.returns-then-file-div_ceil
-returns-then-file-div_ceil c = rw (ne_eqb (length c.args.file.now) (bytes_for c.args.at) (omega (arith, c.div_ceil.ensures, c.if-file-div_ceil.true)))
 
 -- the file has the bytes that the bits take
 full : (c : Else-file-div_ceil) → length c.args.file.now ≡ bytes_for c.args.at
@@ -16,6 +13,3 @@ full c = omega (arith, c.div_ceil.ensures, c.if-file-div_ceil.false)
 
 pub returns-then-fill-eq0 : goal.returns-then-fill-eq0
 returns-then-fill-eq0 c = rw (eq-eqb _ _ (full (goal.at.returns-then-fill-eq0 c).Else-file-div_ceil), c.if-fill-eq0.true, field-none)
-
-pub returns-else-fill-eq0 : goal.returns-else-fill-eq0
-returns-else-fill-eq0 c = rw (eq-eqb _ _ (full (goal.at.returns-else-fill-eq0 c).Else-file-div_ceil), c.field.ensures)

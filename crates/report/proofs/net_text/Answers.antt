@@ -1,4 +1,3 @@
-use native.Mathlib.Omega.{arith}
 use borrow.Author.Rules.{rules}
 use Prim.Native.Nat.{ℕ}
 use mathlib.Core.Path.{◌≡◌, refl, sym, ap, ◌∙◌, subst}
@@ -14,7 +13,7 @@ use Rattle.tabled.specs.Judge.{serve, judged}
 use Rattle.report.specs.Pages.{Fills}
 use Rattle.report.specs.Rides.{Ridden}
 use Rattle.report.specs.Report.{Prints, file_text}
-use Rattle.report.proofs.Telling.{Told, plan-done, plan-none, plan-refused, net-refused, told-ridden, told_text, printed}
+use Rattle.report.proofs.Telling.{Told, plan-done, plan-none, plan-refused, told-ridden, told_text, printed}
 use Rattle.report.proofs.net_text.Goals.{In-Plan, After-of-tariff}
 use Rattle.report.proofs.net_text.Goals as goal
 
@@ -29,14 +28,6 @@ this-plan c =
 -- and the tariff is of the file that was lent
 same : (c : After-of-tariff) → c.of-tariff.result.net.now ≡ c.args.net.now
 same c = ap (λ r. r.now) c.of-tariff.ensures.0 ∙ c.in_ok-file.ensures
-
-pub returns-in_err-file : goal.returns-in_err-file
-returns-in_err-file c =
-    let a = c.args in
-    let why = c.in_err-file.field-0.0 in
-    let said : c.from_residual.result ≡ Err why = search rules in
-    subst (Fills (Prints (judged (of_file a.net.now) (query_of a.query) (length a.table.now)) (query_of a.query)) a.page.now a.page.now) (sym said)
-    (net-refused a.net.now (query_of a.query) (length a.table.now) why c.in_err-file.ensures, refl, refl, refl)
 
 pub returns-in_err-plan : goal.returns-in_err-plan
 returns-in_err-plan c =
@@ -71,6 +62,3 @@ invariant_of-rides c =
       ridden = subst (λ (s : List ℕ). Ridden s file (query_of a.query) (field file 77 12)) (sym (same at.After-of-tariff))
           (told-ridden a.net.now (query_of a.query) file (this-plan at.In-Plan).1);
     }
-
-pub text-requires : goal.text-requires
-text-requires c = omega (arith, c.requires.1, c.requires.2)

@@ -1,16 +1,9 @@
-use mathlib.Core.Path.{refl, sym, ap, ◌∙◌}
+use mathlib.Core.Path.{sym, ap, ◌∙◌}
 use lib.ListN.{length}
 use Rattle.plan.specs.Network.{Query}
 use Rattle.report.specs.Report.{latest_of, Reports}
-use Rattle.report.proofs.Telling.{report-short, report-fill, report-net, rest-is, fills-by}
+use Rattle.report.proofs.Telling.{report-net, rest-is, fills-by}
 use Rattle.report.proofs.whole_text.Goals as goal
-
-pub returns-then-input-lt5 : goal.returns-then-input-lt5
-returns-then-input-lt5 c = (report-short c.args.input.now (length c.args.table.now) _ c.if-input-lt5.true refl, refl, refl, refl)
-
-pub returns-then-field-ne0 : goal.returns-then-field-ne0
-returns-then-field-ne0 c =
-    (report-fill c.args.input.now (length c.args.table.now) _ c.if-input-lt5.false (λ z. c.if-field-ne0.true (c.field.ensures ∙ z)) refl, refl, refl, refl)
 
 pub returns : goal.returns
 returns c =
@@ -19,5 +12,5 @@ returns c =
     fills-by _ (Reports a.input.now (length a.table.now))
     (λ text p. report-net a.input.now (length a.table.now) text _ (rest-is a.input.now) c.if-input-lt5.false (sym c.field.ensures ∙ c.if-field-ne0.false) _
     (ap (λ (q : Query). q.start) read) (ap (λ (q : Query). q.end) read) (ap (λ (q : Query). q.earliest) read)
-    (c.latest_of.ensures ∙ ap (λ (q : Query). latest_of q.latest) read) p)
+    (c.latest_of-latest.ensures ∙ ap (λ (q : Query). latest_of q.latest) read) p)
     a.page.now c.net_text.new.page c.net_text.result c.net_text.ensures

@@ -12,12 +12,12 @@ use Rattle.rule_cards.proofs.cards_obey.Goals as goal
 
 -- the leg's bands are on the card
 this-card : (c : After-card) → let leg = c.args.leg in
-    Carded leg.net.now (leg.at + 28) 16 (leg_at leg.net.now leg.at).count (length c.card.result.minutes.now) c.card.result.minutes.now c.card.result.prices.now 0
+    Carded leg.net.now (leg.at + 28) 16 (leg_at leg.net.now leg.at).count (length c.card.result.slots.now) c.card.result.slots.now 0
 this-card c =
     let leg = c.args.leg in
     let fill = c.fill.ensures in
-    let (starts, tolls, size, _) = c.card.ensures in
-    new-card leg.net.now (leg.at + 28) c.count-count.result _ _ _ c.card.result c.count-count.ensures leg.there.few c.blank-bands.ensures fill.0 fill.1 starts tolls size
+    let (same, size) = c.card.ensures in
+    new-card leg.net.now (leg.at + 28) c.count.result _ _ _ c.card.result c.count.ensures leg.there.few c.blank-bands.ensures fill.0 fill.1 same size
 
 pub invariant_of-cards : goal.invariant_of-cards
 invariant_of-cards c =
@@ -27,7 +27,7 @@ invariant_of-cards c =
       fit = record {
         from_ready = h.1;
         to_ready = h.2;
-        bands_ready = bands-ready leg.net.now leg.at h.0.order _ (this-card (goal.at.invariant_of-cards c).After-card) c.card.ensures.2 c.card.ensures.3;
+        bands_ready = bands-ready leg.net.now leg.at h.0.order _ (this-card (goal.at.invariant_of-cards c).After-card) c.card.ensures.1;
         time_within = omega (arith, h.0.order.time_within, ap (λ (m : Minute). m.0) c.time-time.ensures);
         latest_within = h.0.end;
       };
@@ -36,5 +36,5 @@ invariant_of-cards c =
 pub returns : goal.returns
 returns c i j h =
     let leg = c.args.leg in
-    leg-tested leg.net.now leg.at c.requires.0.order _ c.args.steps c.count-count.result i j h c.count-count.ensures (ap (λ (m : Minute). m.0) c.time-time.ensures)
+    leg-tested leg.net.now leg.at c.requires.0.order _ 16 8 i j h leg.there.few (ap (λ (m : Minute). m.0) c.time-time.ensures)
     (this-card (goal.at.returns c).After-card) c.obey.result c.obey.ensures

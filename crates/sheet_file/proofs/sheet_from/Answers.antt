@@ -5,19 +5,13 @@ use Rattle.sheet_file.specs.InPlace.{Indexed}
 use mathlib.Core.Bool.{true}
 use Rattle.sheet_file.specs.Window.{of_window}
 use Rattle.network.specs.Reading.{found}
-use Rattle.sheet_file.proofs.Laws.{tested-true, tested-false}
-use Rattle.sheet_file.proofs.Found.{partly_none, partly_more, partly-nothing, partly-all, judged-top, judged-places, judged-tail, sheet-is, placed}
+use Rattle.sheet_file.proofs.Laws.{tested-true}
+use Rattle.sheet_file.proofs.Found.{partly_none, partly_more, partly-nothing, partly-all, judged-places, judged-tail, sheet-is, placed}
 use native.Mathlib.Omega.{arith}
 use mathlib.Core.Path.{◌≡◌, refl, sym, ◌∙◌}
 use lib.ListN.{length-set}
 use Rattle.sheet_file.proofs.sheet_from.Goals.{After-ends}
 use Rattle.sheet_file.proofs.sheet_from.Goals as goal
-
-pub returns-then-not-top_sound : goal.returns-then-not-top_sound
-returns-then-not-top_sound c =
-    let a = c.args in
-    judged-top a.sheet.now a.window a.places
-    (tested-false c.top_sound.result (top a.places (file_of a.sheet.now) 0) tt 15 c.if-not-top_sound.true c.top_sound.ensures)
 
 pub loop-k-init : goal.loop-k-init
 loop-k-init c =

@@ -2,15 +2,10 @@ use Prim.Native.Nat.{◌+◌, ◌-◌, ◌*◌, ◌<◌}
 use native.Mathlib.Omega.{arith}
 use mathlib.Core.Path.{sym, ◌∙◌}
 use lib.ListN.{length}
-use borrow.Author.Tests.{leb-true, leb-false}
+use borrow.Author.Tests.{leb-false}
 use Rattle.source.proofs.Laws.{field_past, field-shifted}
 use Rattle.source.proofs.padded.Goals.{Else-there}
 use Rattle.source.proofs.padded.Goals as goal
-
-pub field-requires : goal.field-requires
-field-requires c =
-    let pre = c.requires in
-    (pre.1, pre.2, leb-true _ _ (sym c.there.ensures ∙ c.if-there.true))
 
 -- the field is cut by the end
 short : (c : Else-there) → 8 * length c.args.net.now < c.args.at + c.args.width
@@ -18,17 +13,8 @@ short c =
     let a = c.args in
     leb-false (a.at + a.width) (8 * length a.net.now) (sym c.there.ensures ∙ c.if-there.false)
 
-pub overflow_mul-end : goal.overflow_mul-end
-overflow_mul-end c = omega (arith, short c)
-
 pub returns-then-end-at : goal.returns-then-end-at
 returns-then-end-at c = sym (field_past _ _ _ c.if-end-at.true)
-
-pub field-requires-2 : goal.field-requires-2
-field-requires-2 c = omega (arith, short (goal.at.field-requires-2 c).Else-there)
-
-pub overflow_sub-result : goal.overflow_sub-result
-overflow_sub-result c = omega (arith, short (goal.at.overflow_sub-result c).Else-there)
 
 pub returns : goal.returns
 returns c =

@@ -1,6 +1,6 @@
 -- `table::fill`: tariff, chains, outset and sweep together.
 use lib.ListN.{replicate}
-use Rattle.table.proofs.Filling.{may-ask, start_fits, start-low, fill_begins, fill_done, outset-long}
+use Rattle.table.proofs.Filling.{start_fits, start-low, fill_begins, fill_done, outset-long}
 use mathlib.Core.Path.{◌≡◌, refl, ◌∙◌}
 use Rattle.table.proofs.fill.Goals as goal
 
@@ -10,11 +10,6 @@ returns c =
     let long = c.sweep.auto.cells ∙ c.outset.auto.cells in
     let same : c.of-tariff.result.net.now ≡ a.file.net.now = cc in
     fill_done a.file a.start a.window a.cells.now c.requires c.sweep.new.cells c.sweep.new.low long (rw same at c.sweep.ensures)
-
-pub invariant_of-roads-clause-asked : goal.invariant_of-roads-clause-asked
-invariant_of-roads-clause-asked c =
-    let a = c.args in
-    rw c.of-tariff.ensures.1 (may-ask a.file a.start a.window a.cells.now c.requires)
 
 pub outset-requires : goal.outset-requires
 outset-requires c =

@@ -14,12 +14,6 @@ returns c =
     accepted-file a.list.now a.size (length a.out.now) c.requires cleared.new.out topped.new.s whole.new.out cleared.ensures (omega arith) topped.ensures
     whole.ensures (omega (arith, whole.auto.out, topped.auto.s, cleared.auto.out))
 
-pub overflow_mul-places : goal.overflow_mul-places
-overflow_mul-places c = omega (arith, (accepted-sizes _ _ _ c.requires).places_few)
-
-pub overflow_add-places : goal.overflow_add-places
-overflow_add-places c = omega (arith, (accepted-sizes _ _ _ c.requires).places_few)
-
 pub overflow_cast-legs : goal.overflow_cast-legs
 overflow_cast-legs c = omega (arith, (accepted-sizes _ _ _ c.requires).legs_few)
 
@@ -38,6 +32,3 @@ put_legs-requires c =
     let a = c.args in
     let same : length c.put.new.s ≡ length a.out.now = omega (arith, c.put.auto.s, c.clear.auto.out) in
     rw same (accepted-legs a.list.now a.size (length a.out.now) c.requires)
-
-pub shape_of-out : goal.shape_of-out
-shape_of-out c = omega (arith, c.put_legs.auto.out, c.put.auto.s, c.clear.auto.out)

@@ -1,7 +1,12 @@
 -- `write_call::put_leg`: the four fields of the head are one put, and the bands passed follow it, one put each.
-use Prim.Native.Nat.{◌+◌}
+use Prim.Native.Nat.{ℕ, ◌+◌, ◌<◌}
 use native.Mathlib.Omega.{arith}
-use mathlib.Core.Path.{◌≡◌}
+use mathlib.Core.Path.{◌≡◌, ap}
+use lib.ListN.{take, get_or}
+use lib.Seq.{get_or-take}
+use Rattle.leg.specs.declared.Band.{Band}
+use Rattle.leg.specs.declared.Leg.{Leg}
+use Rattle.leg.specs.Ranges.{no_band}
 use Rattle.network.specs.Network.{edition1}
 use Rattle.network.specs.Fields.{head_fields, bands_fields}
 use Rattle.write_call.proofs.Adding.{adds-put, adds_then, adds-no-bands, adds-band}
@@ -21,24 +26,20 @@ returns c =
 pub loop-k-init : goal.loop-k-init
 loop-k-init c = adds-no-bands c.put.new.s (c.args.at + 28) c.args.leg.bands
 
-pub overflow_mul-band : goal.overflow_mul-band
-overflow_mul-band c = omega (arith, (c.requires.0.bands_small c.loop-k.k).0)
+-- band k of the leg's first ones is its band k
+module _ (leg : Leg) (k : ℕ) (h : k < leg.count) where
+  this : get_or (take leg.count leg.bands) k no_band ≡ get_or leg.bands k no_band
+  this = get_or-take leg.count leg.bands k no_band h
 
-pub overflow_add-band : goal.overflow_add-band
-overflow_add-band c =
-    let small = c.requires.0.bands_small c.loop-k.k in
-    omega (arith, small.0, small.1)
+  start : (get_or (take leg.count leg.bands) k no_band).start.0 ≡ (get_or leg.bands k no_band).start.0
+  start = ap (λ (b : Band). b.start.0) this
 
-pub put-requires : goal.put-requires
-put-requires c = let small = c.requires.0 in (omega arith, omega arith, omega (arith, small.from_small, small.to_small, small.time_small, small.count_small), omega arith)
-
-pub put-requires-in-loop-k : goal.put-requires-in-loop-k
-put-requires-in-loop-k c =
-    let small = c.requires.0.bands_small c.loop-k.k in
-    (omega arith, omega arith, omega (arith, small.0, small.1), omega (arith, c.requires.2, c.loop-k.invariant.same_length))
+  toll : (get_or (take leg.count leg.bands) k no_band).toll.0 ≡ (get_or leg.bands k no_band).toll.0
+  toll = ap (λ (b : Band). b.toll.0) this
 
 pub loop-k-preserved : goal.loop-k-preserved
 loop-k-preserved c =
     let l = c.loop-k in
+    let leg = c.args.leg in
     let small = c.requires.0.bands_small l.k in
-    adds-band l.k c.args.leg.bands small.0 small.1 (omega arith) l.invariant c.put-in-loop-k.ensures
+    adds-band l.k leg.bands small.0 small.1 (omega arith) l.invariant (rw (start leg l.k (omega arith), toll leg l.k (omega arith)) at c.put-in-loop-k.ensures)

@@ -2,5 +2,5 @@
 use Rattle.card.proofs.Counting.{Counted}
 use Rattle.card.proofs.Card.begun.Given as goal
 
-abbrev pub invariant-loop-begins : goal.invariant-loop-begins
-invariant-loop-begins l = Counted l.self.minutes.now 0 l.now l.slots l.begins-index
+abbrev pub invariant-loop-slot : goal.invariant-loop-slot
+invariant-loop-slot l = Counted l.self.slots.now 0 l.minute.0 l.count l.slot-index

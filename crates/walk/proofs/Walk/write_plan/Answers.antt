@@ -15,7 +15,7 @@ returns c =
     ends a.self.now a.arrival.0 c.requires.0
     c.cell-here.result c.cell-here.ensures c.clear.new.out _ _
     (λ i. ap (λ (l : List ℕ). get_or l i 0) zero ∙ zeros-are (length a.file.now) i)
-    (c.clear.auto.out ∙ c.requires.1) c.put_head.ensures c.arrival_to_leg.ensures
+    (c.clear.auto.out ∙ c.requires.1) (rw (c.cost_of.ensures, c.legs_of.ensures) at c.put_head.ensures) c.arrival_to_leg.ensures
 
 pub cell-here-requires : goal.cell-here-requires
 cell-here-requires c =

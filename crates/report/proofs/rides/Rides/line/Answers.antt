@@ -1,14 +1,7 @@
-use Rattle.report.proofs.Riding.{ride-there, ride-said}
+use Rattle.report.proofs.Riding.{ride-there}
 use Prim.Native.Nat.{◌+◌}
 use native.Mathlib.Omega.{arith}
 use Rattle.report.proofs.rides.Rides.line.Goals as goal
-
-pub returns : goal.returns
-returns c =
-    let e = c.leg_line.ensures in (
-      ride-said _ _ _ _ _ _ _ _ c.ride_at-leg.ensures.0 c.ride_at-leg.ensures.1 c.arrival_after-before.ensures e.0,
-      e.1,
-    )
 
 pub overflow_sub-wait : goal.overflow_sub-wait
 overflow_sub-wait c =

@@ -1,7 +1,6 @@
 -- `Boarding::ride`: the rides before the start of band k are done.
 use Rattle.table.specs.Ride.{band_start}
-use Rattle.table.proofs.Rides.{band-starts, band-ends, rode-none, rode-more}
-use Prim.Native.Nat.{◌+◌}
+use Rattle.table.proofs.Rides.{band-starts, band-ends, rode-none}
 use native.Mathlib.Omega.{arith}
 use Rattle.table.proofs.boarding.Boarding.ride.Goals as goal
 
@@ -16,12 +15,3 @@ loop-k-init c =
     let b = c.args.self.now in
     let start = band-starts b.leg 0 b.banded.some in
     rode-none b.leg b.earliest.0 b.w b.from b.row.now c.args.cells.now 0 (band_start b.leg 0) (λ i f l u h. omega (arith, start, b.banded.begins))
-
-pub loop-k-preserved : goal.loop-k-preserved
-loop-k-preserved c =
-    let b = c.args.self.now in
-    let l = c.loop-k in
-    let more =
-    rode-more b.leg b.earliest.0 b.w b.from b.row.now c.args.cells.now l.cells c.ride_band.new.cells l.first c.ride_band.result
-    0 (band_start b.leg l.k) (band_start b.leg (l.k + 1)) l.invariant c.ride_band.ensures in
-    rw c.min-first.ensures more

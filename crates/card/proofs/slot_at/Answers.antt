@@ -1,10 +1,10 @@
--- `card::slot`: a field that is read at once is its two parts.
+-- `card::slot_at`: a field that is read at once is its two parts.
 use Prim.Native.Nat.{ℕ, ◌*◌, ◌^◌, ◌≤◌, ◌%◌}
 use native.Mathlib.Omega.{arith}
 use mathlib.Core.Path.{◌≡◌}
 use Rattle.std.proofs.Math.Pow.{pow_mono}
 use Rattle.bits.proofs.Fields.{part-first, part-last}
-use Rattle.card.proofs.slot.Goals as goal
+use Rattle.card.proofs.slot_at.Goals as goal
 
 -- a power that fits 32 bits
 power : (w : ℕ) → w ≤ 20 → 1 * 2 ^ w % 4294967296 ≡ 2 ^ w

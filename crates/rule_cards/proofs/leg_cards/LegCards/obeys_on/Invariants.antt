@@ -1,9 +1,0 @@
--- `rule_cards::leg_cards::LegCards::obeys_on`: the rule holds where the slots that were passed begin.
-use mathlib.Core.List.{List}
-use Rattle.leg.specs.declared.Leg.{Leg}
-use Rattle.plan.specs.Sheet.{Step}
-use Rattle.rule_cards.specs.Cards.{CardsOf, RuleOn}
-use Rattle.rule_cards.proofs.leg_cards.LegCards.obeys_on.Given as goal
-
-abbrev pub invariant-loop-k : goal.invariant-loop-k
-invariant-loop-k l = (i j : List Step) (leg : Leg) → CardsOf l.self i j leg → RuleOn l.self.latest.0 l.card l.k i j leg
